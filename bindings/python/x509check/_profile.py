@@ -7,6 +7,6 @@ class Profile(enum.Enum):
     """Which profile counts."""
 
     STATED = "stated"
-    """Lists about all certificates of an issuer, its users' or its CAs'."""
+    """Lists about all certificates of an issuer, its users' or its CAs', and responses by SHA-1."""
     WIDE = "wide"
-    """They, and lists that are published by distribution point (RFC 5280, 5.2.5)."""
+    """They, lists that are published by distribution point (RFC 5280, 5.2.5), and responses by SHA-256 (RFC 6960, 4.1.1)."""

@@ -22,11 +22,11 @@ pub(crate) const MOST_HANDED: usize = MOST_CERTIFICATES + 1;
 /// How much of the standard is served (`docs/REFERENCE.md`, "The profile").
 #[derive(Clone, Copy, Debug, Default, PartialEq, Eq)]
 pub enum Profile {
-    /// A list that is published at a point cannot be read.
+    /// A list that is published at a point cannot be read, and responses count by SHA-1.
     #[default]
     Stated,
     /// Such a list is taken too, and speaks of the certificates whose cRLDistributionPoints name its point. A certificate in which these are
-    /// malformed cannot be read, unless it is an anchor.
+    /// malformed cannot be read, unless it is an anchor. Responses count by SHA-256 too.
     Wide,
 }
 

@@ -56,7 +56,7 @@ response_same response i = ap (λ named. asked_if named (of_answers i response �
 
 under_same : (statement : Statement) (i : Certificate) → asked_under statement (apart i) ≡ asked_under statement i
 under_same (Statement.OfList list) i = refl
-under_same (Statement.OfResponse response) i =
+under_same (Statement.OfResponse profile response) i =
     ap (λ own. own ++ flat_map (asked_of_delegate i response) (certificates_in response)) (response_same response i)
 
 statement_same : (statement : Statement) (issuers : List Certificate) → asked_of_statement (map apart issuers) statement ≡ asked_of_statement issuers statement

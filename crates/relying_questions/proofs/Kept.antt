@@ -99,8 +99,8 @@ statement_stands : AreExact → (profile : Profile) (text : List ℕ) (read : St
     → StatementStands text read
 statement_stands exact profile text (Statement.OfList list) fits reads = list_stands profile text list
     ((exact profile text (Statement.OfList list) fits).0 reads)
-statement_stands exact profile text (Statement.OfResponse response) fits reads =
-    response_stands text response fits ((exact profile text (Statement.OfResponse response) fits).0 reads)
+statement_stands exact profile text (Statement.OfResponse own response) fits reads =
+    response_stands text response fits ((exact profile text (Statement.OfResponse own response) fits).0 reads).1
 
 statements_stand : AreExact → (texts : Texts) (n : ℕ) (octets : List (List ℕ)) (statements : List Statement)
     → ((j : ℕ) → j < length octets → texts (source.Statement (n + j)) ≡ slice_index_or octets j [])

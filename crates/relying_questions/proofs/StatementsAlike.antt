@@ -13,6 +13,7 @@ use Rattle.statements.specs.Issuer.{identity_of}
 use Rattle.statements.specs.OcspFact.{fact_with, response_said, signer_or_fault, or_nothing, singles_of}
 use Rattle.statements.specs.Responder.{the_issuer, delegate, is_named_by, is_responder, may_respond, signs_itself, delegate_of, signer_of}
 use Rattle.statements.specs.Statement.{Statement}
+use Rattle.statements_facts.specs.declared.profile.Profile.{Profile}
 use Rattle.statements_facts.specs.Single.{SingleFact, some_singles}
 use Rattle.statements_parts.specs.declared.fault.StatementFault.{StatementFault}
 use Rattle.relying_agreement.specs.Run.{facts_or_none}
@@ -75,18 +76,18 @@ module _ (accepts other : Accepts) (issuer : Certificate) where
       ap₂ (λ itself found. if itself then Some the_issuer else option_map (λ c. delegate c) found) (itself_alike response own)
       (found_alike response (certificates_in response) theirs)
 
-  said_alike : (response : OcspResponse) → Alike accepts other (asked_of_response issuer response)
-      → response_said accepts issuer response ≡ response_said other issuer response
-  said_alike response alike =
-      ap (λ signer. signer_or_fault signer then λ by. or_nothing (some_singles (singles_of issuer response by))) (signer_alike response alike)
+  said_alike : (profile : Profile) (response : OcspResponse) → Alike accepts other (asked_of_response issuer response)
+      → response_said profile accepts issuer response ≡ response_said profile other issuer response
+  said_alike profile response alike =
+      ap (λ signer. signer_or_fault signer then λ by. or_nothing (some_singles (singles_of profile issuer response by))) (signer_alike response alike)
 
   -- ---- statements of both kinds
 
   statement_alike : (read : Statement) → Alike accepts other (asked_under read issuer) → facts_of accepts issuer read ≡ facts_of other issuer read
   statement_alike (Statement.OfList list) alike =
       ap (λ (is : Result (Unit {0}) StatementFault). facts_or_none (is then λ done. Ok (crl_facts issuer list))) (list_alike list alike)
-  statement_alike (Statement.OfResponse response) alike =
-      ap (λ (answer : Result (List SingleFact) StatementFault). facts_or_none (answer then λ singles. Ok (map (fact_with (identity_of issuer)) singles))) (said_alike response alike)
+  statement_alike (Statement.OfResponse profile response) alike =
+      ap (λ (answer : Result (List SingleFact) StatementFault). facts_or_none (answer then λ singles. Ok (map (fact_with (identity_of issuer)) singles))) (said_alike profile response alike)
 
 module _ (accepts other : Accepts) where
   under_each_alike : (issuers : List Certificate) (read : Statement) → Alike accepts other (asked_of_statement issuers read)

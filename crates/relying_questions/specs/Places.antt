@@ -170,7 +170,7 @@ pub record ResponseStands (text : List ℕ) (response : OcspResponse) : Type 0 w
 
 abbrev pub StatementStands : List ℕ → Statement → Type 0
 StatementStands text (Statement.OfList list) = ListStands text list
-StatementStands text (Statement.OfResponse response) = ResponseStands text response
+StatementStands text (Statement.OfResponse profile response) = ResponseStands text response
 
 -- those from an index on
 abbrev pub StatementsStand : Texts → ℕ → List Statement → Type 0

@@ -78,7 +78,7 @@ asked_of_response issuer response =
 -- of a statement under an issuer
 abbrev pub asked_under : Statement → Certificate → List Judgement
 asked_under (Statement.OfList list) issuer = asked_of_list issuer list
-asked_under (Statement.OfResponse response) issuer = asked_of_response issuer response
+asked_under (Statement.OfResponse profile response) issuer = asked_of_response issuer response
 
 -- under each of the issuers
 abbrev pub asked_of_statement : List Certificate → Statement → List Judgement

@@ -168,6 +168,6 @@ pub(crate) fn ask_statement<'a>(
 {
     match statement {
         Statement::List(list) => ask_list(asked, issuer, source, list),
-        Statement::Response(response) => ask_response(alloc, asked, issuer, source, response),
+        Statement::Response(_, response) => ask_response(alloc, asked, issuer, source, response),
     }
 }

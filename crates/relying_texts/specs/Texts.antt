@@ -3,6 +3,7 @@ use Rattle.std.specs.Prelude.{List, map}
 use Rattle.std.specs.List.{flat_map}
 use Rattle.cert.specs.Certificate.{Certificate}
 use Rattle.statements_crl.specs.CertificateList.{CertificateList}
+use Rattle.statements_facts.specs.declared.profile.Profile.{Profile}
 use Rattle.statements_facts.specs.Fact.{Fact}
 use Rattle.statements_facts.specs.Statement.{Holdings, empty_holdings}
 use Rattle.statements_ocsp.specs.OcspResponse.{OcspResponse}
@@ -25,8 +26,8 @@ facts_of accepts issuer statement = facts_or_none (statement_said accepts issuer
 abbrev pub facts_of_list : Accepts → Certificate → CertificateList → List Fact
 facts_of_list accepts issuer list = facts_of accepts issuer (Statement.OfList list)
 
-abbrev pub facts_of_response : Accepts → Certificate → OcspResponse → List Fact
-facts_of_response accepts issuer response = facts_of accepts issuer (Statement.OfResponse response)
+abbrev pub facts_of_response : Profile → Accepts → Certificate → OcspResponse → List Fact
+facts_of_response profile accepts issuer response = facts_of accepts issuer (Statement.OfResponse profile response)
 
 -- what it tells under each of several, in order
 abbrev pub facts_under_each : Accepts → List Certificate → Statement → List Fact

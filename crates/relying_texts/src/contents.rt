@@ -13,7 +13,7 @@ use cert::Certificate;
 use path_verifiers::Verifier;
 use statements::{Statement, check_crl_issuer, response_singles};
 use statements_crl::Crl;
-use statements_facts::Singles;
+use statements_facts::{Profile, Singles};
 use statements_ocsp::Response;
 use statements_parts::StatementFault;
 use std::alloc::{AllocError, Global};
@@ -61,15 +61,16 @@ fn list_under<'a, V: Verifier>(
 /// The single responses of the issuer's certificates, if the issuer or a delegate signed the response.
 fn singles_under<'a, V: Verifier>(
     alloc: Global,
+    profile: Profile,
     verifier: &V,
     issuer: &Certificate<'_>,
     response: &Response<'a>,
 ) -> Result<Option<Contents<'a>>, AllocError>
     ensures { IfOk result (λ contents. facts_if_some (identity_seen issuer.now) contents
-        ≡ facts_of_response (V.accepts verifier.now) (seen_certificate issuer.now)
+        ≡ facts_of_response profile (V.accepts verifier.now) (seen_certificate issuer.now)
         (seen_response response.now)) }
 {
-    match response_singles(alloc, verifier, issuer, response) {
+    match response_singles(alloc, profile, verifier, issuer, response) {
         Ok(singles) => Ok(Some(Contents::Singles(singles))),
         Err(fault) => {
             check_memory(fault)?;
@@ -91,6 +92,8 @@ pub(crate) fn contents_under<'a, V: Verifier>(
 {
     match statement {
         Statement::List(list) => Ok(list_under(verifier, issuer, list)),
-        Statement::Response(response) => singles_under(alloc, verifier, issuer, response),
+        Statement::Response(profile, response) => {
+            singles_under(alloc, *profile, verifier, issuer, response)
+        }
     }
 }

@@ -57,7 +57,7 @@ fn newest_single(
 {
     let mut newest = held;
     for single in singles {
-        if single.name_hash == name_hash && single.serial == serial {
+        if single.name_hash.as_slice() == name_hash && single.serial == serial {
             newest = newer_of(newest, answer_of(single));
         }
     }

@@ -51,21 +51,21 @@ same_answer (Err Memory) walk e = tt
 
 -- ---- responses
 
-pub signer_refused : (accepts : Accepts) (issuer : Certificate) (response : OcspResponse) (fault : StatementFault) → RefusesUnlessFull fault (signer_or_fault (signer_of accepts issuer response)) → RefusesUnlessFull fault (response_said accepts issuer response)
-signer_refused accepts issuer response fault fails =
-    first_fails fault (signer_or_fault (signer_of accepts issuer response)) (λ signer. or_nothing (some_singles (singles_of issuer response signer))) fails
+pub signer_refused : (profile : Profile) (accepts : Accepts) (issuer : Certificate) (response : OcspResponse) (fault : StatementFault) → RefusesUnlessFull fault (signer_or_fault (signer_of accepts issuer response)) → RefusesUnlessFull fault (response_said profile accepts issuer response)
+signer_refused profile accepts issuer response fault fails =
+    first_fails fault (signer_or_fault (signer_of accepts issuer response)) (λ signer. or_nothing (some_singles (singles_of profile issuer response signer))) fails
 
-pub singles_are : (accepts : Accepts) (issuer : Certificate) (response : OcspResponse) (signer : Signer) (singles : List SingleFact) → signer_or_fault (signer_of accepts issuer response) ≡ Ok signer → singles ≡ singles_of issuer response signer → response_said accepts issuer response ≡ or_nothing (some_singles singles)
-singles_are accepts issuer response signer singles found are = rw (found, are) refl
+pub singles_are : (profile : Profile) (accepts : Accepts) (issuer : Certificate) (response : OcspResponse) (signer : Signer) (singles : List SingleFact) → signer_or_fault (signer_of accepts issuer response) ≡ Ok signer → singles ≡ singles_of profile issuer response signer → response_said profile accepts issuer response ≡ or_nothing (some_singles singles)
+singles_are profile accepts issuer response signer singles found are = rw (found, are) refl
 
 -- ---- statements of both kinds
 
 module _ (accepts : Accepts) (issuer : Certificate) where
-  pub response_fails : (response : OcspResponse) (fault : StatementFault) → RefusesUnlessFull fault (response_said accepts issuer response) → RefusesUnlessFull fault (statement_said accepts issuer (Statement.OfResponse response))
-  response_fails response fault fails = first_fails fault (response_said accepts issuer response) (λ singles. Ok (map (fact_with (identity_of issuer)) singles)) fails
+  pub response_fails : (profile : Profile) (response : OcspResponse) (fault : StatementFault) → RefusesUnlessFull fault (response_said profile accepts issuer response) → RefusesUnlessFull fault (statement_said accepts issuer (Statement.OfResponse profile response))
+  response_fails profile response fault fails = first_fails fault (response_said profile accepts issuer response) (λ singles. Ok (map (fact_with (identity_of issuer)) singles)) fails
 
-  pub response_is : (response : OcspResponse) (identity : IssuerIdentity) (singles : List SingleFact) → response_said accepts issuer response ≡ Ok singles → identity ≡ identity_of issuer → statement_said accepts issuer (Statement.OfResponse response) ≡ Ok (map (fact_with identity) singles)
-  response_is response identity singles said is = rw (said, is) refl
+  pub response_is : (profile : Profile) (response : OcspResponse) (identity : IssuerIdentity) (singles : List SingleFact) → response_said profile accepts issuer response ≡ Ok singles → identity ≡ identity_of issuer → statement_said accepts issuer (Statement.OfResponse profile response) ≡ Ok (map (fact_with identity) singles)
+  response_is profile response identity singles said is = rw (said, is) refl
 
   -- ---- octets
 

@@ -11,6 +11,7 @@ use Rattle.cert.proofs.Laws.{certificate_is_exact}
 use Rattle.names.specs.DistinguishedName.{matching}
 use Rattle.sha1.specs.Sha1.{sha1}
 use Rattle.statements_ocsp.specs.Responder.{Responder, by_name, by_key}
+use Rattle.statements_facts.specs.declared.profile.Profile.TheVariants.{Stated, Wide}
 use Rattle.statements_crl.specs.CertificateList.{CertificateList}
 use Rattle.statements_ocsp.specs.OcspResponse.{OcspResponse}
 use Rattle.statements.specs.Genuine.{Accepts}
@@ -18,7 +19,7 @@ use Rattle.statements.specs.CrlFact.{list_said, of_issuer}
 use Rattle.statements.specs.Responder.{is_named_by, is_responder, signs_itself, delegate_of, signer_of}
 use Rattle.statements.specs.OcspFact.{response_said}
 use Rattle.statements.specs.Statement.{Statement, statement_said}
-use Rattle.statements.specs.OneIssuer.{WasRead, IssuerDecides}
+use Rattle.statements.specs.OneIssuer.{WasRead, IsSpelledAlikeFor, IssuerDecides}
 
 -- ---- the octets of a subjectPublicKeyInfo determine the key
 
@@ -62,15 +63,19 @@ module _ (accepts : Accepts) (one other : Certificate) (subject : one.subject.rd
   unfolding signs_itself delegate_of is_responder
   signer_same response = rw (named_same response.responder, subject, info) refl
 
-  said_same : (response : OcspResponse) → response_said accepts one response ≡ response_said accepts other response
-  said_same response = rw (signer_same response, key) refl
+  stated_same : (response : OcspResponse) → response_said Stated accepts one response ≡ response_said Stated accepts other response
+  stated_same response = rw (signer_same response, key) refl
 
-  statement_same : (read : Statement) → statement_said accepts one read ≡ statement_said accepts other read
-  statement_same (Statement.OfList list) = rw (list_same list) refl
-  statement_same (Statement.OfResponse response) = rw (said_same response, subject, info) refl
+  wide_same : (response : OcspResponse) → one.subject.octets ≡ other.subject.octets → response_said Wide accepts one response ≡ response_said Wide accepts other response
+  wide_same response spelled = rw (signer_same response, key, spelled) refl
+
+  statement_same : (read : Statement) → IsSpelledAlikeFor read one other → statement_said accepts one read ≡ statement_said accepts other read
+  statement_same (Statement.OfList list) spelled = rw (list_same list) refl
+  statement_same (Statement.OfResponse Stated response) spelled = rw (stated_same response, subject, info) refl
+  statement_same (Statement.OfResponse Wide response) spelled = rw (wide_same response spelled, subject, info) refl
 
 pub issuer_decides : IssuerDecides
-issuer_decides accepts one other read also same statement =
+issuer_decides accepts one other read also same statement spelled =
     let key : one.key_info.key.octets ≡ other.key_info.key.octets =
     keys_same one.key_info.value other.key_info.value one.key_info other.key_info (has_key_info one read).is (has_key_info other also).is same.key_info in
-    statement_same accepts one other same.subject same.key_info key statement
+    statement_same accepts one other same.subject same.key_info key statement spelled

@@ -4,6 +4,7 @@ mod Listing
 mod Responding
 mod Signers
 mod Responses
+mod InProfiles
 mod StatementLaws
 mod Needs
 mod IssuerLaws

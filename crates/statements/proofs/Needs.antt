@@ -2,6 +2,7 @@
 use Rattle.std.proofs.Common.{◌≡◌, ◌≢◌, false, List, [], Result, Ok, Err}
 use Rattle.cert.specs.Certificate.{Certificate}
 use Rattle.statements_ocsp.specs.OcspResponse.{OcspResponse}
+use Rattle.statements_facts.specs.declared.profile.Profile.{Profile}
 use Rattle.statements_facts.specs.Single.{SingleFact, some_singles}
 use Rattle.statements_parts.specs.declared.fault.StatementFault.{StatementFault}
 use Rattle.statements_parts.specs.declared.fault.StatementFault.TheVariants.{Refused, OtherIssuer, BadSignature, NoSigner, NothingForIssuer, Memory}
@@ -28,7 +29,7 @@ found_needs_one accepts issuer response signer found isnt none =
     let found = rw none at found in
     absurd cc
 
-pub said_needs_one : (accepts : Accepts) (issuer : Certificate) (response : OcspResponse) (singles : List SingleFact) → response_said accepts issuer response ≡ Ok singles → signs_itself accepts issuer response ≡ false → response.certs ≢ []
-said_needs_one accepts issuer response singles said =
-    let signer = then_ok (signer_or_fault (signer_of accepts issuer response)) (λ signer. or_nothing (some_singles (singles_of issuer response signer))) singles said in
+pub said_needs_one : (profile : Profile) (accepts : Accepts) (issuer : Certificate) (response : OcspResponse) (singles : List SingleFact) → response_said profile accepts issuer response ≡ Ok singles → signs_itself accepts issuer response ≡ false → response.certs ≢ []
+said_needs_one profile accepts issuer response singles said =
+    let signer = then_ok (signer_or_fault (signer_of accepts issuer response)) (λ signer. or_nothing (some_singles (singles_of profile issuer response signer))) singles said in
     found_needs_one accepts issuer response signer.0 signer.1

@@ -2,6 +2,7 @@
 use Rattle.std.proofs.Common.{◌≡◌, ◌≢◌, List, [], ◌∷◌, Option, Some, None, Result, Ok, refl, sym, ◌∙◌}
 use Rattle.cert.specs.Certificate.{Certificate}
 use Rattle.statements_ocsp.specs.OcspResponse.{OcspResponse}
+use Rattle.statements_facts.specs.declared.profile.Profile.{Profile}
 use Rattle.statements_facts.specs.Single.{SingleFact, some_singles}
 use Rattle.statements_parts.specs.declared.fault.StatementFault.{StatementFault}
 use Rattle.statements.specs.Genuine.{Accepts}
@@ -14,29 +15,29 @@ was_found : (o : Option Signer) (signer : Signer) → signer_or_fault o ≡ Ok s
 was_found (Some other) signer e = cc
 was_found None signer e = absurd cc
 
-were_some : (all singles : List SingleFact) → or_nothing (some_singles all) ≡ Ok singles → (singles ≡ all) × (singles ≢ [])
+pub were_some : (all singles : List SingleFact) → or_nothing (some_singles all) ≡ Ok singles → (singles ≡ all) × (singles ≢ [])
 were_some [] singles e = absurd cc
 were_some (one ∷ others) singles e =
     let same : singles ≡ one ∷ others = cc in
     (same, λ none. (let empty : one ∷ others ≡ [] = sym same ∙ none in absurd cc))
 
-are_some : (singles : List SingleFact) → singles ≢ [] → or_nothing (some_singles singles) ≡ Ok singles
+pub are_some : (singles : List SingleFact) → singles ≢ [] → or_nothing (some_singles singles) ≡ Ok singles
 are_some [] some = absurd (some refl)
 are_some (one ∷ others) some = refl
 
 -- what a response says has a signer
-pub record SaysBySigner (accepts : Accepts) (issuer : Certificate) (response : OcspResponse) (singles : List SingleFact) : Type 0 where
+pub record SaysBySigner (profile : Profile) (accepts : Accepts) (issuer : Certificate) (response : OcspResponse) (singles : List SingleFact) : Type 0 where
   pub signer : Signer
   pub is_signer : IsSigner accepts issuer response signer
-  pub singles_are : singles ≡ singles_of issuer response signer
+  pub singles_are : singles ≡ singles_of profile issuer response signer
   pub some : singles ≢ []
 
-module _ (accepts : Accepts) (issuer : Certificate) (response : OcspResponse) (singles : List SingleFact) where
-  pub response_says : response_said accepts issuer response ≡ Ok singles → SaysBySigner accepts issuer response singles
+module _ (profile : Profile) (accepts : Accepts) (issuer : Certificate) (response : OcspResponse) (singles : List SingleFact) where
+  pub response_says : response_said profile accepts issuer response ≡ Ok singles → SaysBySigner profile accepts issuer response singles
   response_says e =
-      let ends : Signer → Result (List SingleFact) StatementFault = λ signer. or_nothing (some_singles (singles_of issuer response signer)) in
+      let ends : Signer → Result (List SingleFact) StatementFault = λ signer. or_nothing (some_singles (singles_of profile issuer response signer)) in
       let signer = then_ok (signer_or_fault (signer_of accepts issuer response)) ends singles e in
-      let said = were_some (singles_of issuer response signer.0) singles signer.2 in
+      let said = were_some (singles_of profile issuer response signer.0) singles signer.2 in
       record {
         signer = signer.0;
         is_signer = signers_are_found.found accepts issuer response signer.0 (was_found (signer_of accepts issuer response) signer.0 signer.1);
@@ -44,5 +45,5 @@ module _ (accepts : Accepts) (issuer : Certificate) (response : OcspResponse) (s
         some = said.1;
       }
 
-  pub says_response : SaysBySigner accepts issuer response singles → response_said accepts issuer response ≡ Ok singles
+  pub says_response : SaysBySigner profile accepts issuer response singles → response_said profile accepts issuer response ≡ Ok singles
   says_response is = rw (signers_are_found.only accepts issuer response is.signer is.is_signer, ← is.singles_are) (are_some singles is.some)

@@ -3,6 +3,7 @@ pub mod Genuine
 pub mod CrlFact
 pub mod Responder
 pub mod SignerView
+pub mod CertificateIds
 pub mod OcspFact
 pub mod Statement
 pub mod OneIssuer

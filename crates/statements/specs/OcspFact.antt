@@ -1,6 +1,6 @@
 -- What a response says of the issuer's certificates (RFC 6960, 4.2.1 and 4.2.2).
-use Rattle.std.specs.Prelude.{◌≡◌, ◌≢◌, ◌&&◌, ◌==◌, ◌+ℤ◌, ℕ, ℤ, pos, Bool, List, [], ◌∷◌, length, filter, map, Option, Some, None, Result, Ok, Err}
-use Rattle.std.specs.Str.{bytes_eq}
+use Rattle.std.specs.Prelude.{◌≡◌, ◌≢◌, ◌+ℤ◌, ℕ, ℤ, pos, Bool, List, [], Contains, filter, map, Option, Some, None, option_map, Result, Ok, Err}
+use Rattle.std.specs.List.{filter_map, AllByRecursion}
 use Rattle.std.specs.Int.{int_max, int_min}
 use Rattle.cert.specs.Certificate.{Certificate}
 use Rattle.statements_ocsp.specs.OcspResponse.{OcspResponse}
@@ -8,6 +8,8 @@ use Rattle.statements_ocsp.specs.ResponseForms.{IsOcspResponse}
 use Rattle.statements_ocsp.specs.Single.{SingleResponse}
 use Rattle.statements_ocsp.specs.declared.cert_status.CertStatus.{CertStatus}
 use Rattle.statements_ocsp.specs.declared.cert_status.CertStatus.TheVariants as said
+use Rattle.statements_facts.specs.declared.profile.Profile.{Profile}
+use Rattle.statements_facts.specs.declared.profile.Profile.TheVariants.{Stated, Wide}
 use Rattle.statements_facts.specs.declared.single.Status.{Status}
 use Rattle.statements_facts.specs.declared.single.Status.TheVariants.{Good, Revoked, Unknown}
 use Rattle.statements_facts.specs.Single.{SingleFact, some_singles}
@@ -15,20 +17,9 @@ use Rattle.statements_facts.specs.Statement.{IssuerIdentity, Window}
 use Rattle.statements_facts.specs.Fact.{Fact, ocsp_slot}
 use Rattle.statements_parts.specs.declared.fault.StatementFault.{StatementFault}
 use Rattle.statements_parts.specs.declared.fault.StatementFault.TheVariants.{NoSigner, NothingForIssuer}
+use Rattle.statements.specs.CertificateIds.{is_by_sha1, named_in}
 use Rattle.statements.specs.Genuine.{Accepts, ◌then◌}
 use Rattle.statements.specs.Responder.{Signer, the_issuer, delegate, key_hash, signer_of, IsSigner}
-
--- id-sha1: 1.3.14.3.2.26
-abbrev pub id_sha1 : List ℕ
-id_sha1 = 0x2B ∷ 0x0E ∷ 0x03 ∷ 0x02 ∷ 0x1A ∷ []
-
--- the single response speaks of a certificate whose issuer has the key of this hash: its hashes are SHA-1 (4.1.1)
-abbrev pub speaks_with : List ℕ → SingleResponse → Bool
-speaks_with hash single =
-    bytes_eq single.id.hash_algorithm id_sha1 && (length single.id.issuer_name_hash == 20 && bytes_eq single.id.issuer_key_hash hash)
-
-abbrev pub speaks_for : Certificate → SingleResponse → Bool
-speaks_for issuer = speaks_with (key_hash issuer)
 
 -- a day, in seconds
 abbrev pub day : ℤ
@@ -51,9 +42,9 @@ status_of said.Good = Good
 status_of (said.Revoked reason) = Revoked reason
 status_of said.Unknown = Unknown
 
-abbrev pub single_fact : Signer → ℤ → SingleResponse → SingleFact
-single_fact signer produced_at single = record {
-  name_hash = single.id.issuer_name_hash;
+abbrev pub single_fact : Signer → ℤ → SingleResponse → List ℕ → SingleFact
+single_fact signer produced_at single name_hash = record {
+  name_hash = name_hash;
   serial = single.id.serial;
   fact = record {
     times = record { this_update = single.this_update; produced_at = produced_at };
@@ -62,9 +53,14 @@ single_fact signer produced_at single = record {
   };
 }
 
+-- what a single response says, if it speaks of a certificate of the issuer
+abbrev pub single_said : Profile → Certificate → Signer → ℤ → SingleResponse → Option SingleFact
+single_said profile issuer signer produced_at single =
+    option_map (single_fact signer produced_at single) (named_in profile issuer single.id)
+
 -- what the response says, in the order of its single responses; those that do not speak of the issuer's certificates are passed over
-abbrev pub singles_of : Certificate → OcspResponse → Signer → List SingleFact
-singles_of issuer response signer = map (single_fact signer response.produced_at) (filter (speaks_for issuer) response.responses)
+abbrev pub singles_of : Profile → Certificate → OcspResponse → Signer → List SingleFact
+singles_of profile issuer response signer = filter_map (single_said profile issuer signer response.produced_at) response.responses
 
 abbrev pub signer_or_fault : Option Signer → Result Signer StatementFault
 signer_or_fault (Some signer) = Ok signer
@@ -74,21 +70,47 @@ abbrev pub or_nothing : Option (List SingleFact) → Result (List SingleFact) St
 or_nothing None = Err NothingForIssuer
 or_nothing (Some singles) = Ok singles
 
--- what a response says that was read, or why it is none of the issuer or says nothing
-abbrev pub response_said : Accepts → Certificate → OcspResponse → Result (List SingleFact) StatementFault
-response_said accepts issuer response =
+-- what a response says in a profile that was read, or why it is none of the issuer or says nothing
+abbrev pub response_said : Profile → Accepts → Certificate → OcspResponse → Result (List SingleFact) StatementFault
+response_said profile accepts issuer response =
     signer_or_fault (signer_of accepts issuer response) then λ signer.
-    or_nothing (some_singles (singles_of issuer response signer))
+    or_nothing (some_singles (singles_of profile issuer response signer))
 
--- The octets are a response that somebody signed who may answer for the issuer, and these are what it says. No moment is looked at.
-pub record IsGenuineResponse (accepts : Accepts) (issuer : Certificate) (octets : List ℕ) (singles : List SingleFact) : Type 0 where
+-- The octets are a response that somebody signed who may answer for the issuer, and these are what it says in a profile. No moment is
+-- looked at.
+pub record IsGenuineResponseUnder (profile : Profile) (accepts : Accepts) (issuer : Certificate) (octets : List ℕ) (singles : List SingleFact) : Type 0 where
   pub response : OcspResponse
   pub is_response : IsOcspResponse octets response
   pub signer : Signer
   pub is_signer : IsSigner accepts issuer response signer
-  pub singles_are : singles ≡ singles_of issuer response signer
+  pub singles_are : singles ≡ singles_of profile issuer response signer
   pub some : singles ≢ []
+
+abbrev pub IsGenuineResponse : Accepts → Certificate → List ℕ → List SingleFact → Type 0
+IsGenuineResponse = IsGenuineResponseUnder Stated
 
 -- a single response as a fact about its certificate
 abbrev pub fact_with : IssuerIdentity → SingleFact → Fact
 fact_with issuer single = Fact.OfResponse (ocsp_slot issuer single) single.fact
+
+-- ---- laws
+
+-- In the stated profile a response speaks of the certificates whose ids are by SHA-1.
+abbrev pub speaks_for : Certificate → SingleResponse → Bool
+speaks_for issuer single = is_by_sha1 (key_hash issuer) single.id
+
+abbrev pub stated_fact : Signer → ℤ → SingleResponse → SingleFact
+stated_fact signer produced_at single = single_fact signer produced_at single single.id.issuer_name_hash
+
+abbrev pub StatedIdsAreBySha1 : Type 0
+StatedIdsAreBySha1 =
+    (issuer : Certificate) (response : OcspResponse) (signer : Signer) →
+    singles_of Stated issuer response signer
+    ≡ map (stated_fact signer response.produced_at) (filter (speaks_for issuer) response.responses)
+
+-- What a response says in the stated profile it says in the wide one, which may let it say more.
+abbrev pub WideResponsesSayMore : Type 0
+WideResponsesSayMore =
+    (accepts : Accepts) (issuer : Certificate) (response : OcspResponse) (singles : List SingleFact) →
+    response_said Stated accepts issuer response ≡ Ok singles →
+    (all : List SingleFact) × (response_said Wide accepts issuer response ≡ Ok all) × AllByRecursion (Contains all) singles

@@ -1,14 +1,16 @@
 -- Tests and facts of certificates, lists and responses as the code has them: each has the name of what it says of their fields, with
 -- `_seen` behind it.
-use Rattle.std.specs.Prelude.{◌≡◌, ◌≢◌, ℤ, Bool, false, List, [], ◌∷◌, map, Result, Ok}
+use Rattle.std.specs.Prelude.{◌≡◌, ◌≢◌, ℕ, ℤ, Bool, false, List, [], ◌∷◌, map, Option, option_map, Result, Ok}
 use Rattle.std.specs.Global.{Vec}
 use Rattle.cert.specs.Certificate.{seen_certificate}
 use Rattle.cert.specs.declared.certificate.Certificate as certificate
 use Rattle.statements_crl.specs.CertificateList.{seen_list}
 use Rattle.statements_crl.specs.declared.list.Crl as list
+use Rattle.statements_ocsp.specs.CertificateId.{seen_id}
 use Rattle.statements_ocsp.specs.OcspResponse.{certs_left, seen_response}
 use Rattle.statements_ocsp.specs.Responder.{seen_responder}
 use Rattle.statements_ocsp.specs.Single.{seen_single_response}
+use Rattle.statements_ocsp.specs.declared.cert_id.CertId as cert_id
 use Rattle.statements_ocsp.specs.declared.responder.ResponderId as responder
 use Rattle.statements_ocsp.specs.declared.response.Response as response
 use Rattle.statements_ocsp.specs.declared.single.SingleResponse as single
@@ -17,12 +19,15 @@ use Rattle.statements_facts.specs.Fact.{seen_issuer}
 use Rattle.statements_facts.specs.Single.{SingleFact}
 use Rattle.statements_facts.specs.Statement.{IssuerIdentity, Window}
 use Rattle.statements_facts.specs.declared.issuer.Issuer as facts
+use Rattle.statements.specs.CertificateIds.{IssuerHashes, named_with}
 use Rattle.statements.specs.CrlFact.{issuers_of, of_issuer}
 use Rattle.statements.specs.Genuine.{Accepts}
 use Rattle.statements.specs.Issuer.{identity_of}
 use Rattle.statements.specs.OcspFact.{single_fact, window_of}
 use Rattle.statements.specs.Responder.{is_issued, is_named_by, is_responder, signs, signs_itself}
 use Rattle.statements.specs.SignerView.{seen_signer}
+use Rattle.statements.specs.declared.ids.IssuerHashes as hashes
+use Rattle.statements.specs.declared.ids.IssuerIds as ids
 use Rattle.statements.specs.declared.signer.Signer as signer
 
 -- the issuer of facts is whom the certificate is of
@@ -76,5 +81,15 @@ MayBeSigned accepts issuer response =
 abbrev pub window_of_seen : signer.Signer → single.SingleResponse → Window
 window_of_seen signer single = window_of (seen_signer signer) (seen_single_response single)
 
-abbrev pub single_fact_seen : signer.Signer → ℤ → single.SingleResponse → SingleFact
+abbrev pub single_fact_seen : signer.Signer → ℤ → single.SingleResponse → List ℕ → SingleFact
 single_fact_seen signer produced_at single = single_fact (seen_signer signer) produced_at (seen_single_response single)
+
+abbrev pub seen_hashes : hashes.IssuerHashes → IssuerHashes
+seen_hashes hashes = record {
+  key_by_sha256 = hashes.key_by_sha256;
+  name_by_sha256 = hashes.name_by_sha256;
+  name_by_sha1 = hashes.name_by_sha1;
+}
+
+abbrev pub named_with_seen : ids.IssuerIds → cert_id.CertId → Option (List ℕ)
+named_with_seen ids id = named_with ids.key_hash (option_map seen_hashes ids.wide) (seen_id id)

@@ -21,23 +21,23 @@ use Rattle.statements_facts.specs.Statement.{CrlSlot, CrlFact}
 use Rattle.statements.specs.CrlFact.{AreCrlFacts, IsCrlFact, list_said}
 use Rattle.statements.specs.Genuine.{Accepts, ◌then◌, as_refused}
 use Rattle.statements.specs.Issuer.{identity_of}
-use Rattle.statements.specs.OcspFact.{IsGenuineResponse, fact_with, response_said}
+use Rattle.statements.specs.OcspFact.{IsGenuineResponseUnder, IsGenuineResponse, fact_with, response_said}
 use Rattle.statements.specs.declared.statement.Statement.{Statement as code}
 use Rattle.statements.specs.declared.statement.Statement.TheVariants.{List as read_list, Response as read_response}
 
--- a list (RFC 5280, 5.1), or a response (RFC 6960, 4.2.1)
+-- a list (RFC 5280, 5.1); or a response (RFC 6960, 4.2.1), with the profile in which it was read
 pub data Statement : Type 0 where
   OfList : CertificateList → Statement
-  OfResponse : OcspResponse → Statement
+  OfResponse : Profile → OcspResponse → Statement
 
 abbrev pub seen_statement : code → Statement
 seen_statement (read_list list) = Statement.OfList (seen_list list)
-seen_statement (read_response response) = Statement.OfResponse (seen_response response)
+seen_statement (read_response profile response) = Statement.OfResponse profile (seen_response response)
 
 -- the value as a response, if the first value inside is an ENUMERATED, else as a list in a profile
 unfoldable pub statement_at_under : Profile → Place → Result Statement (StatementRule × ℕ)
 statement_at_under profile value =
-    if is_response value then (ocsp_response_at value >>= λ response. Ok (Statement.OfResponse response))
+    if is_response value then (ocsp_response_at value >>= λ response. Ok (Statement.OfResponse profile response))
     else (certificate_list_at_under profile value >>= λ list. Ok (Statement.OfList list))
 
 unfoldable pub statement_under : Profile → List ℕ → Result Statement (StatementRule × ℕ)
@@ -53,7 +53,7 @@ statement = statement_under Stated
 -- what is read is exactly what the standards call a list or a response
 abbrev pub IsStatementUnder : Profile → List ℕ → Statement → Type 0
 IsStatementUnder profile octets (Statement.OfList list) = IsCertificateListUnder profile octets list
-IsStatementUnder profile octets (Statement.OfResponse response) = IsOcspResponse octets response
+IsStatementUnder profile octets (Statement.OfResponse own response) = (own ≡ profile) × IsOcspResponse octets response
 
 abbrev pub StatementIsExactUnder : Profile → Type 0
 StatementIsExactUnder profile =
@@ -62,25 +62,30 @@ StatementIsExactUnder profile =
 
 abbrev pub IsStatement : List ℕ → Statement → Type 0
 IsStatement octets (Statement.OfList list) = IsCertificateList octets list
-IsStatement octets (Statement.OfResponse response) = IsOcspResponse octets response
+IsStatement octets (Statement.OfResponse own response) = (own ≡ Stated) × IsOcspResponse octets response
 
 abbrev pub StatementIsExact : Type 0
 StatementIsExact =
     (octets : List ℕ) (read : Statement) → AreOctets octets → (statement octets ≡ Ok read) ↔ IsStatement octets read
 
+-- the same statement as the wide profile reads it
+abbrev pub in_wide : Statement → Statement
+in_wide (Statement.OfList list) = Statement.OfList list
+in_wide (Statement.OfResponse profile response) = Statement.OfResponse Wide response
+
 -- what is read in the stated profile is read as the same in the wide one
 abbrev pub StatedStatementsAreReadWide : Type 0
 StatedStatementsAreReadWide =
     (octets : List ℕ) (read : Statement) → AreOctets octets →
-    statement octets ≡ Ok read → statement_under Wide octets ≡ Ok read
+    statement octets ≡ Ok read → statement_under Wide octets ≡ Ok (in_wide read)
 
 -- ---- what it says
 
 -- The facts that a statement tells of its issuer's certificates, in order, or why it is none of the issuer.
 abbrev pub statement_said : Accepts → Certificate → Statement → Result (List Fact) StatementFault
 statement_said accepts issuer (Statement.OfList list) = list_said accepts issuer list
-statement_said accepts issuer (Statement.OfResponse response) =
-    response_said accepts issuer response then λ singles. Ok (map (fact_with (identity_of issuer)) singles)
+statement_said accepts issuer (Statement.OfResponse profile response) =
+    response_said profile accepts issuer response then λ singles. Ok (map (fact_with (identity_of issuer)) singles)
 
 -- The checks in their order: whether the octets are read in a profile, and what they say.
 unfoldable pub genuine_statement_under : Profile → Accepts → Certificate → List ℕ → Result (List Fact) StatementFault
@@ -95,7 +100,7 @@ genuine_statement = genuine_statement_under Stated
 abbrev pub IsGenuineUnder : Profile → Accepts → Certificate → List ℕ → List Fact → Type 0
 IsGenuineUnder profile accepts issuer octets facts =
     AreCrlFacts profile accepts issuer octets facts
-    ⊎ ((singles : List SingleFact) × IsGenuineResponse accepts issuer octets singles
+    ⊎ ((singles : List SingleFact) × IsGenuineResponseUnder profile accepts issuer octets singles
     × (facts ≡ map (fact_with (identity_of issuer)) singles))
 
 -- In the stated profile a list is whole: it says one thing.

@@ -3,6 +3,7 @@
 
 mod genuine_list;
 mod genuine_response;
+mod ids;
 mod issuing;
 mod laws;
 mod listed;

@@ -5,31 +5,19 @@ ghost use Rattle.cert.specs.Certificate.{seen_certificate};
 ghost use Rattle.statements_facts.specs.Single.{seen_single};
 ghost use Rattle.statements_ocsp.specs.OcspResponse.{seen_response};
 ghost use Rattle.statements_ocsp.specs.Single.{seen_single_response as seen_response_to};
-ghost use Rattle.statements.specs.OcspFact.{counts_until, singles_of, speaks_with, status_of};
+ghost use Rattle.statements.specs.OcspFact.{counts_until, singles_of, status_of};
 ghost use Rattle.statements.specs.Seen.{single_fact_seen, window_of_seen};
 ghost use Rattle.statements.specs.SignerView.{seen_signer};
 
-use crate::responder::hash_of_key;
+use crate::ids::IssuerIds;
 use crate::signer::Signer;
 use cert::Certificate;
-use statements_facts::{Single, Status};
+use statements_facts::{Profile, Single, Status};
 use statements_ocsp::{CertStatus, Response, SingleResponse};
 use std::alloc::{AllocError, Global};
 
-/// id-sha1, 1.3.14.3.2.26
-const SHA_1: &[u8] = b"\x2B\x0E\x03\x02\x1A";
-
 /// For how long a single response counts that does not say until when, in seconds.
 const DAY: i64 = 86_400;
-
-/// Whether the single response speaks of a certificate whose issuer has the key of this hash.
-fn speaks_of_issuer(key_hash: &[u8], single: &SingleResponse<'_>) -> bool
-    ensures { result ≡ speaks_with key_hash.now (seen_response_to single.now) }
-{
-    single.id.hash_algorithm == SHA_1
-        && single.id.issuer_name_hash.len() == 20
-        && single.id.issuer_key_hash == key_hash
-}
 
 /// Until when the single response counts.
 fn end(single: &SingleResponse<'_>) -> i64
@@ -67,13 +55,19 @@ fn status(status: CertStatus) -> Status
     }
 }
 
-/// What a single response says, in a response made at this time by this signer.
-fn said_by<'a>(signer: &Signer<'_>, produced_at: i64, single: &SingleResponse<'a>) -> Single<'a>
-    ensures { seen_single result ≡ single_fact_seen signer.now produced_at single.now }
+/// What a single response says, in a response made at this time by this signer, of a certificate whose issuer's name has this hash.
+fn said_by<'a>(
+    signer: &Signer<'_>,
+    produced_at: i64,
+    single: &SingleResponse<'a>,
+    name_hash: [u8; 20],
+) -> Single<'a>
+    ensures { seen_single result
+        ≡ single_fact_seen signer.now produced_at single.now name_hash }
 {
     let (from, until) = window(signer, single);
     Single {
-        name_hash: single.id.issuer_name_hash,
+        name_hash,
         serial: single.id.serial,
         this_update: single.this_update,
         produced_at,
@@ -83,23 +77,24 @@ fn said_by<'a>(signer: &Signer<'_>, produced_at: i64, single: &SingleResponse<'a
     }
 }
 
-/// What the response says of certificates of the issuer, in order.
+/// What the response says in a profile of certificates of the issuer, in order.
 pub(crate) fn singles_said<'a>(
     alloc: Global,
+    profile: Profile,
     issuer: &Certificate<'_>,
     response: &Response<'a>,
     signer: &Signer<'_>,
 ) -> Result<Vec<Single<'a>>, AllocError>
     ensures { IfOk result (λ all. map seen_single all.items ≡
-        singles_of (seen_certificate issuer.now) (seen_response response.now)
+        singles_of profile (seen_certificate issuer.now) (seen_response response.now)
         (seen_signer signer.now)) }
 {
-    let key_hash = hash_of_key(issuer);
+    let ids = IssuerIds::of(profile, issuer);
     let mut all = Vec::new(alloc);
     let mut singles = response.responses;
     while let Some(single) = singles.next() {
-        if speaks_of_issuer(&key_hash, &single) {
-            all.push(said_by(signer, response.produced_at, &single))?;
+        if let Some(name_hash) = ids.name_hash(&single.id) {
+            all.push(said_by(signer, response.produced_at, &single, name_hash))?;
         }
     }
     Ok(all)

@@ -24,8 +24,8 @@ use std::alloc::Global;
 pub enum Statement<'a> {
     /// A certificate revocation list (RFC 5280, 5.1).
     List(Crl<'a>),
-    /// An OCSP response (RFC 6960, 4.2.1).
-    Response(Response<'a>),
+    /// An OCSP response (RFC 6960, 4.2.1), with the profile in which it was read, which says by which hashes it may name an issuer.
+    Response(Profile, Response<'a>),
 }
 
 impl<'a> Statement<'a> {
@@ -45,7 +45,7 @@ impl<'a> Statement<'a> {
         Statement::at_under(alloc, Profile::Stated, value)
     }
 
-    /// As `read`, in a profile: that of `Crl::read_under`. Responses are read alike in both.
+    /// As `read`, in a profile: that of `Crl::read_under`. Responses are read alike in both, and have the profile.
     #[tactic(auto, unfolding(crate::specs::Statement::statement_under))]
     pub fn read_under(
         alloc: Global,
@@ -70,7 +70,7 @@ impl<'a> Statement<'a> {
             (statement_at_under profile (seen_tlv value.entry)) }
     {
         if is_response(value) {
-            Ok(Statement::Response(Response::at(alloc, value)?))
+            Ok(Statement::Response(profile, Response::at(alloc, value)?))
         } else {
             Ok(Statement::List(Crl::at_under(alloc, profile, value)?))
         }
@@ -91,8 +91,8 @@ impl<'a> Statement<'a> {
     {
         match self {
             Statement::List(list) => Ok(Facts::Crl(list_facts(alloc, verifier, issuer, list)?)),
-            Statement::Response(response) => Ok(Facts::Ocsp(response_facts(
-                alloc, verifier, issuer, response,
+            Statement::Response(profile, response) => Ok(Facts::Ocsp(response_facts(
+                alloc, *profile, verifier, issuer, response,
             )?)),
         }
     }

@@ -11,7 +11,7 @@ pub record SingleFact : Type 0 where
 
 abbrev pub seen_single : Single → SingleFact
 seen_single single = record {
-  name_hash = single.name_hash.now;
+  name_hash = single.name_hash;
   serial = single.serial.now;
   fact = record {
     times = record { this_update = single.this_update; produced_at = single.produced_at };

@@ -18,7 +18,7 @@ pub enum Status {
 #[derive(Clone, Copy)]
 pub struct Single<'a> {
     /// The SHA-1 hash of the issuer's name, as the certificate spells it.
-    pub name_hash: &'a [u8],
+    pub name_hash: [u8; 20],
     /// The contents octets of the certificate's serial number.
     pub serial: &'a [u8],
     pub this_update: i64,

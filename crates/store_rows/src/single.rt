@@ -148,7 +148,7 @@ pub fn replace_single<S: Alter>(
         (CanPutSingle (seen_single single.now)) result }
     ensures survives { CommitsNothing (inside S.Store tx.old) (inside S.Store tx.new) }
 {
-    let key = key_of(issuer, single.name_hash, single.serial);
+    let key = key_of(issuer, &single.name_hash, single.serial);
     delete_single(tx, &key)?;
     let said = columns_of(single);
     insert_single(tx, &key, &said)?;

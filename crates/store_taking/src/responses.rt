@@ -65,7 +65,7 @@ fn outcome_of_single<S: Alter>(
     ensures caused { CausedIn S.Store tx.old tx.new result }
     ensures survives { CommitsNothing (inside S.Store tx.old) (inside S.Store tx.new) }
 {
-    match find_single(tx, id, single.name_hash, single.serial)? {
+    match find_single(tx, id, &single.name_hash, single.serial)? {
         Some(held) => Ok(outcome_beside(&held, single)),
         None => Ok(TakenAs::Stored),
     }

@@ -144,7 +144,7 @@ response_fields = record {
 abbrev contained : Place
 contained = text_at (0x04 ∷ 0x81 ∷ 0xB4 ∷ basic_response_der) 23
 
-response_is_read : statement response_der ≡ Ok (Statement.OfResponse response_fields)
+response_is_read : statement response_der ≡ Ok (Statement.OfResponse Stated response_fields)
 unfolding on_literals
 response_is_read = rw (outermost_again response_der response_whole, nested_again contained basic_whole) refl
 

@@ -11,6 +11,8 @@ mod fingerprints;
 #[cfg(test)]
 mod forged;
 #[cfg(test)]
+mod hashes;
+#[cfg(test)]
 mod judged;
 #[cfg(test)]
 mod listed;

@@ -2,8 +2,8 @@
 
 use cert::{CertFault, Certificate};
 use path_verifiers::Verifier;
-use statements::genuine;
-use statements_facts::{Facts, RevokedSerials, Scope, Single, Status};
+use statements::{genuine, genuine_under};
+use statements_facts::{Facts, Profile, RevokedSerials, Scope, Single, Status};
 use statements_parts::StatementFault;
 use std::alloc::{AllocError, AllocFailed, Global};
 use std::fmt::Write;
@@ -133,4 +133,17 @@ pub fn line(alloc: Global, issuer: &str, statement: &[u8]) -> Result<String, Wro
     let issuer = certificate(alloc, issuer)?;
     let issuer = Certificate::read(alloc, &issuer)?;
     line_under(alloc, &ToyVerifier, &issuer, statement)
+}
+
+/// The same as a profile has it.
+pub fn line_in(
+    alloc: Global,
+    profile: Profile,
+    issuer: &str,
+    statement: &[u8],
+) -> Result<String, Wrong> {
+    let issuer = certificate(alloc, issuer)?;
+    let issuer = Certificate::read(alloc, &issuer)?;
+    let facts = genuine_under(alloc, profile, &ToyVerifier, &issuer, statement)?;
+    Ok(line_of(alloc, &facts)?)
 }

@@ -92,17 +92,28 @@ fn says<D: Disk + Drop>(
     true
 }
 
-/// The answers of a party of the profile to all that it was told, and whether its verdicts are these then.
+/// The answers of a party of the profile to statements of the authority R, of which an empty one stands for a restart, and whether its
+/// verdicts are these then.
+pub fn delivered_and_asked(
+    alloc: Global,
+    profile: Profile,
+    statements: &[Vec<u8>],
+    judged: &[Judged],
+) -> Option<(Vec<DeliverAnswer>, bool)> {
+    let issuer = certificate(alloc, "ca(R,R)").ok()?;
+    let events = events_of(alloc, &issuer, statements)?;
+    let party = Node::new(ToyVerifier, made(alloc, profile)?);
+    let (mut party, answers) = party.run(alloc, &events).ok()?;
+    Some((answers, says(alloc, profile, &mut party, judged)))
+}
+
+/// The same of all that it was told.
 pub fn told_and_asked(
     alloc: Global,
     profile: Profile,
     told: &[Told],
     judged: &[Judged],
 ) -> Option<(Vec<DeliverAnswer>, bool)> {
-    let issuer = certificate(alloc, "ca(R,R)").ok()?;
     let lists = lists_of(alloc, told)?;
-    let events = events_of(alloc, &issuer, &lists)?;
-    let party = Node::new(ToyVerifier, made(alloc, profile)?);
-    let (mut party, answers) = party.run(alloc, &events).ok()?;
-    Some((answers, says(alloc, profile, &mut party, judged)))
+    delivered_and_asked(alloc, profile, &lists, judged)
 }

@@ -5,7 +5,7 @@
 //!     ocsp(R,05 good,06 revoked 1){by D}{signed D}
 //!
 //! `ocsp(I,SERIAL STATUS,..)` is a response named and signed by I, with a single response for each, of an id with the SHA-1 of name I and of
-//! key I; STATUS is `good`, `unknown`, `revoked` or `revoked REASON`; both times are 2025-06-01T00:00:00Z, nextUpdate is
+//! key I, or behind `#`, as in `#05 good`, with the SHA-256; STATUS is `good`, `unknown`, `revoked` or `revoked REASON`; both times are 2025-06-01T00:00:00Z, nextUpdate is
 //! 2025-07-01T00:00:00Z. The certificates of `certs` are texts of their own; an empty text puts the value `3000` there, which is no
 //! certificate. Names, keys, algorithms and signatures are those of certificates.
 //!
@@ -16,7 +16,7 @@
 //! | `{produced T}` | producedAt |
 //! | `{open}` | no nextUpdate |
 //! | `{by X}`, `{bykey X}` | the responder: name X, or the SHA-1 of key X |
-//! | `{key X}` | the key whose hash the ids have |
+//! | `{named X}`, `{key X}` | the name and the key whose hashes the ids have |
 #![tactic(auto)]
 
 mod options;

@@ -3,6 +3,7 @@
 use crate::response_notation::{Responder, ResponseNotation, Single, Status};
 use der_tree::{Tree, encode};
 use sha1::Sha1;
+use sha2::{Digest, Sha256};
 use std::alloc::Global;
 use vectors::{
     NotationFault, algorithm_tree, bit_string, key_info, name, name_tree, primitive, toy_signature,
@@ -12,6 +13,9 @@ use vectors::{
 /// id-sha1, 1.3.14.3.2.26
 const SHA_1: &[u8] = b"\x2B\x0E\x03\x02\x1A";
 
+/// id-sha256, 2.16.840.1.101.3.4.2.1
+const SHA_256: &[u8] = b"\x60\x86\x48\x01\x65\x03\x04\x02\x01";
+
 /// id-pkix-ocsp-basic
 const BASIC_RESPONSE: &[u8] = b"\x2B\x06\x01\x05\x05\x07\x30\x01\x01";
 
@@ -20,18 +24,28 @@ fn explicit(alloc: Global, identifier: u8, inside: Tree) -> Result<Tree, Notatio
     Ok(Tree::Constructed(identifier, vec![in alloc; inside]?))
 }
 
+/// An OCTET STRING of the hash of these octets.
+fn hash_tree(alloc: Global, by_sha256: bool, octets: &[u8]) -> Result<Tree, NotationFault> {
+    if by_sha256 {
+        Ok(primitive(alloc, 0x04, &Sha256::digest(octets))?)
+    } else {
+        Ok(primitive(alloc, 0x04, &Sha1::digest(octets))?)
+    }
+}
+
 /// CertID ::= SEQUENCE { hashAlgorithm, issuerNameHash, issuerKeyHash, serialNumber }
 fn cert_id(
     alloc: Global,
     notation: &ResponseNotation<'_>,
-    serial: &[u8],
+    single: &Single,
 ) -> Result<Tree, NotationFault> {
-    let kind = primitive(alloc, 0x06, SHA_1)?;
+    let by_sha256 = single.by_sha256;
+    let kind = primitive(alloc, 0x06, if by_sha256 { SHA_256 } else { SHA_1 })?;
     let algorithm = Tree::Constructed(0x30, vec![in alloc; kind]?);
-    let issuer = name(alloc, notation.issuer)?;
-    let name_hash = primitive(alloc, 0x04, &Sha1::digest(&issuer))?;
-    let key_hash = primitive(alloc, 0x04, &Sha1::digest(notation.key.as_bytes()))?;
-    let serial = primitive(alloc, 0x02, serial)?;
+    let issuer = name(alloc, notation.named)?;
+    let name_hash = hash_tree(alloc, by_sha256, &issuer)?;
+    let key_hash = hash_tree(alloc, by_sha256, notation.key.as_bytes())?;
+    let serial = primitive(alloc, 0x02, &single.serial)?;
     Ok(Tree::Constructed(
         0x30,
         vec![in alloc; algorithm, name_hash, key_hash, serial]?,
@@ -61,7 +75,7 @@ fn single_tree(
     notation: &ResponseNotation<'_>,
     single: &Single,
 ) -> Result<Tree, NotationFault> {
-    let id = cert_id(alloc, notation, &single.serial)?;
+    let id = cert_id(alloc, notation, single)?;
     let status = status_tree(alloc, single.status, notation.this_update)?;
     let this_update = primitive(alloc, 0x18, notation.this_update.as_bytes())?;
     let mut members = vec![in alloc; id, status, this_update]?;

@@ -16,15 +16,21 @@ pub(crate) enum Status {
 /// A serial number with its status.
 #[derive(Drop)]
 pub(crate) struct Single {
+    /// Whether the hashes of the id are by SHA-256, and not by SHA-1.
+    pub by_sha256: bool,
     /// The contents of serialNumber.
     pub serial: Vec<u8>,
     pub status: Status,
 }
 
 impl Single {
-    /// `SERIAL good`, `SERIAL revoked`, `SERIAL revoked REASON` or `SERIAL unknown`
+    /// `SERIAL good`, `SERIAL revoked`, `SERIAL revoked REASON` or `SERIAL unknown`, behind `#` if the id is by SHA-256
     fn read(alloc: Global, text: NotationPart<'_>) -> Result<Single, NotationFault> {
         let (serial, status) = text.split_at_mark(' ')?;
+        let (by_sha256, serial) = match serial.text.strip_prefix('#') {
+            Some(digits) => (true, serial.behind(1, digits)),
+            None => (false, serial),
+        };
         let serial = serial.octets(alloc)?;
         let (word, value) = word_and_value(status);
         let status = match word.text {
@@ -34,7 +40,11 @@ impl Single {
             "unknown" => Status::Unknown,
             _ => return Err(word.fault()),
         };
-        Ok(Single { serial, status })
+        Ok(Single {
+            by_sha256,
+            serial,
+            status,
+        })
     }
 }
 
@@ -51,7 +61,8 @@ pub(crate) enum Responder<'a> {
 pub(crate) struct ResponseNotation<'a> {
     /// The issuer of the certificates that it speaks of.
     pub issuer: &'a str,
-    /// The key of that issuer.
+    /// The name and the key whose hashes the ids have.
+    pub named: &'a str,
     pub key: &'a str,
     pub singles: Vec<Single>,
     pub responder: Responder<'a>,
@@ -94,6 +105,7 @@ impl<'a> ResponseNotation<'a> {
         let issuer = issuer.word()?;
         Ok(ResponseNotation {
             issuer,
+            named: issuer,
             key: issuer,
             singles: singles(alloc, listed)?,
             responder: Responder::ByName(issuer),
@@ -107,6 +119,7 @@ impl<'a> ResponseNotation<'a> {
     fn note(&mut self, option: NotationPart<'a>) -> Result<(), NotationFault> {
         let (word, value) = word_and_value(option);
         match word.text {
+            "named" => self.named = value.word()?,
             "key" => self.key = value.word()?,
             "signed" => self.signer = value.word()?,
             "by" => self.responder = Responder::ByName(value.word()?),

@@ -14,8 +14,8 @@ returns-clause-said g c =
     let accepts = g.V.Verifier.accepts c.args.verifier.now in
     let issuer = seen_certificate c.args.issuer.now in
     let response = seen_response c.args.response.now in
-    same_answer c.some_of.result (response_said accepts issuer response)
-    (singles_are accepts issuer response (seen_signer c.in_ok-signer.signer) (map seen_single c.in_ok-singles.singles.items)
+    same_answer c.some_of.result (response_said c.args.profile accepts issuer response)
+    (singles_are c.args.profile accepts issuer response (seen_signer c.in_ok-signer.signer) (map seen_single c.in_ok-singles.singles.items)
     c.in_ok-signer.ensures.found c.in_ok-singles.ensures
     ∙ sym c.some_of.ensures)
 
