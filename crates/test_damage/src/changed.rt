@@ -60,7 +60,7 @@ const UNTIL: i64 = 1_751_328_000;
 fn is_said(singles: &[Single<'_>]) -> bool {
     match singles {
         [single] => {
-            single.name_hash == NAME_HASH
+            single.name_hash.as_slice() == NAME_HASH
                 && single.serial == SERIAL
                 && (single.this_update, single.produced_at) == (FROM, FROM)
                 && (single.from, single.until) == (FROM, UNTIL)

@@ -19,7 +19,7 @@ const SINGLES: u32 = 256;
 /// The first serial number, as an INTEGER of four octets.
 const FIRST: u32 = 0x4000_0000;
 
-const NAME_HASH: &[u8] = b"hhhhhhhhhhhhhhhhhhhh";
+const NAME_HASH: [u8; 20] = [0x68; 20];
 
 const KEY: &[u8] = b"key";
 
@@ -172,7 +172,7 @@ fn put_response(alloc: Global, store: &mut Store<Memory>, serials: &[u8]) -> Opt
 fn status_of_last(alloc: Global, store: &mut Store<Memory>) -> Option<Option<Status>> {
     let issuer = issuer(alloc, KEY)?;
     let last = FIRST | (SINGLES - 1);
-    let held = store.ocsp(&issuer, NAME_HASH, &last.to_be_bytes()).ok()?;
+    let held = store.ocsp(&issuer, &NAME_HASH, &last.to_be_bytes()).ok()?;
     Some(held.map(|held| held.status))
 }
 

@@ -24,7 +24,7 @@ pub enum Statement {
 pub type Row = (&'static [u8], (u8, u8), Option<Status>);
 
 /// The hash of the issuer's name, as certificates spell it.
-pub const NAME_HASH: &[u8] = b"hhhhhhhhhhhhhhhhhhhh";
+pub const NAME_HASH: [u8; 20] = [0x68; 20];
 
 fn issuer(alloc: Global) -> Option<Issuer<'static>> {
     let name = Vec::from_slice(alloc, b"name").ok()?;
@@ -98,7 +98,7 @@ fn said<S: Alter>(
     if !conn.is_autocommit() {
         return Err(StoreFault::Schema);
     }
-    match look_up_ocsp(conn, issuer, NAME_HASH, serial) {
+    match look_up_ocsp(conn, issuer, &NAME_HASH, serial) {
         Ok(said) => Ok(said.map(|said| said.status)),
         Err(fault) => Err(fault),
     }

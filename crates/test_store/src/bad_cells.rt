@@ -20,7 +20,7 @@ const REVOKED: Listed<'static> = Listed {
 };
 
 const SINGLE: Single<'static> = Single {
-    name_hash: b"hash",
+    name_hash: [0x11; 20],
     serial: &[5],
     this_update: 1,
     produced_at: 2,

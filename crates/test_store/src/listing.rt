@@ -38,7 +38,7 @@ const ALSO_REVOKED: Listed<'static> = Listed {
 };
 
 const SINGLE: Single<'static> = Single {
-    name_hash: b"hash",
+    name_hash: [0x11; 20],
     serial: &[5],
     this_update: 1,
     produced_at: 2,
@@ -48,7 +48,7 @@ const SINGLE: Single<'static> = Single {
 };
 
 const OTHER_SINGLE: Single<'static> = Single {
-    name_hash: b"other",
+    name_hash: [0x22; 20],
     serial: &[],
     this_update: 5,
     produced_at: 6,

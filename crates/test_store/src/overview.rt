@@ -60,7 +60,7 @@ pub fn are_singles(singles: &[HeldSingle], wanted: &[(u32, Single<'_>)]) -> bool
     singles.len() == wanted.len()
         && singles.iter().zip(wanted).all(|(single, wanted)| {
             single.issuer == wanted.0
-                && single.name_hash.as_slice() == wanted.1.name_hash
+                && single.name_hash.as_slice() == wanted.1.name_hash.as_slice()
                 && single.serial.as_slice() == wanted.1.serial
                 && is_same(&single.said, &wanted.1)
         })

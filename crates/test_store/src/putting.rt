@@ -149,5 +149,5 @@ pub fn said<S: Alter>(
         return None;
     }
     let mut tx = conn.transaction();
-    Some(ocsp(&mut tx, issuer, single.name_hash, single.serial))
+    Some(ocsp(&mut tx, issuer, &single.name_hash, single.serial))
 }
