@@ -77,6 +77,16 @@ class Profiles(unittest.TestCase):
         (number, fault), = result.ignored
         self.assertEqual((number, fault.text, fault.index, fault.number), (1, Text.CERTIFICATES, 1, 29))
 
+    def test_a_report_is_made_in_a_profile(self):
+        def told(certificate, statements, **words):
+            page = x509check.report([certificate], [ROOT], statements, MIDDLE, verify=good, **words)
+            return page[page.index("<main>"):page.index("</main>")]
+        wide = told(LEAF, [REVOKING], profile=Profile.WIDE)
+        self.assertTrue("revoked (key compromise)" in wide and "<dt>profile</dt><dd>wide</dd>" in wide)
+        self.assertTrue("fault 48" in told(LEAF, [REVOKING]))
+        self.assertTrue("fault 29" in told(MALFORMED, [], profile=Profile.WIDE))
+        self.assertFalse("fault 29" in told(MALFORMED, []))
+
     def test_another_profile_is_a_mistake(self):
         for profile in "wide", True, 1, None:
             with self.subTest(profile), self.assertRaisesRegex(TypeError, "a Profile is wanted"):

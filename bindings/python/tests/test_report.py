@@ -9,7 +9,7 @@ import unittest
 from unittest import mock
 
 import x509check
-from x509check import Certificate, Judgement, Limits, ProgramMissing, Verdict, _der, _facts
+from x509check import Certificate, Judgement, Limits, Profile, ProgramMissing, Verdict, _der, _facts
 from x509check._report_style import STYLE
 
 from . import authority
@@ -145,7 +145,7 @@ class Pages(unittest.TestCase):
 
 
 def facts_of(certificates=(LEAF, MIDDLE), anchors=(ROOT,), statements=tuple(LISTS), at=1796083200):
-    return _facts.facts_of(_facts.Asked(list(certificates), list(anchors), list(statements), at, None, None, None, False, False), None)
+    return _facts.facts_of(_facts.Asked(list(certificates), list(anchors), list(statements), at, None, None, None, False, False, Profile.STATED), None)
 
 
 def contrast(one, other):

@@ -7,8 +7,9 @@ from typing import Iterator, List, NamedTuple, Optional, Sequence, Set, Tuple
 from ._arguments import Value, der_of
 from ._certificates import Certificate, origin_of
 from ._faults import Fault, Text
-from ._peers import peer_questions, validate_peer
+from ._peers import certificate_in, peer_questions, validate_peer
 from ._pem import Kind
+from ._profile import Profile
 from ._program import ProgramMissing
 from ._query import Limits, Query
 from ._reference import Reference
@@ -34,6 +35,7 @@ class Asked(NamedTuple):
     limits: Optional[Limits]
     ignore_unreadable: bool
     ignore_unreadable_certificates: bool
+    profile: Profile
 
 
 @dataclasses.dataclass(frozen=True)
@@ -125,7 +127,8 @@ def facts_of(asked: Asked, verify: Optional[Judge]) -> Facts:
         and (Text.CERTIFICATES not in texts or asked.ignore_unreadable_certificates) \
         and not any(it.fault.text is Text.CERTIFICATES and it.fault.index == 0 for it in refused)
     if not may_answer:
-        unasked = tuple(Statement(title, octets, shown_statement(octets), ()) for title, octets in statements[:MOST_STATEMENTS])
+        unasked = tuple(
+            Statement(title, octets, shown_statement(octets, asked.profile), ()) for title, octets in statements[:MOST_STATEMENTS])
         return Facts(asked, None, (), tuple(sent), unasked, tuple(refused), None, tuple(anchors))
     return _Answers(asked, anchors, sent, statements, verify).facts(tuple(refused))
 
@@ -141,30 +144,30 @@ def _title(text: str, at: int, value: Value) -> str:
 def _readable(asked: Asked) -> Tuple[List[Certificate], List[Certificate], List[Titled], List[Refused]]:
     """The anchors, the certificates and the statements that can be read, and the values that cannot."""
     refused: List[Refused] = []
-    anchors = _certificates(asked.anchors, "anchor", Text.ANCHORS, refused)
-    sent = _certificates(asked.certificates, "certificate", Text.CERTIFICATES, refused)
+    anchors = _certificates(asked.anchors, "anchor", Text.ANCHORS, Profile.STATED, refused)
+    sent = _certificates(asked.certificates, "certificate", Text.CERTIFICATES, asked.profile, refused)
     beside = next(iter(anchors + sent), None)
-    return anchors, sent, _statements(asked.statements, beside, refused), refused
+    return anchors, sent, _statements(asked, beside, refused), refused
 
 
-def _certificates(values: Sequence[Value], word: str, text: Text, refused: List[Refused]) -> List[Certificate]:
+def _certificates(values: Sequence[Value], word: str, text: Text, profile: Profile, refused: List[Refused]) -> List[Certificate]:
     found = []
     for at, one in enumerate(values):
         octets = der_of(one, f"{word}s[{at}]")
         try:
-            found.append(Certificate.from_der(octets))
+            found.append(certificate_in(octets, profile))
         except Fault as fault:
             refused.append(_refusal(_title(word, at, one), octets, Fault(fault.number, fault.offset, fault.der, text, at)))
     return found
 
 
-def _statements(values: Sequence[Value], beside: Optional[Certificate], refused: List[Refused]) -> List[Titled]:
+def _statements(asked: Asked, beside: Optional[Certificate], refused: List[Refused]) -> List[Titled]:
     """The statements that can be read, which the library looks at beside a certificate: without one none is looked at."""
-    octets = [der_of(one, f"statements[{at}]") for at, one in enumerate(values)]
-    titled = [(_title("statement", at, one), it) for at, (one, it) in enumerate(zip(values, octets))]
+    octets = [der_of(one, f"statements[{at}]") for at, one in enumerate(asked.statements)]
+    titled = [(_title("statement", at, one), it) for at, (one, it) in enumerate(zip(asked.statements, octets))]
     if beside is None:
         return []
-    faults = {fault.index: fault for _, fault in Query(beside, [], octets).leave_out_unreadable()}
+    faults = {fault.index: fault for _, fault in Query(beside, [], octets, profile=asked.profile).leave_out_unreadable()}
     refused += [_refusal(*titled[at], fault) for at, fault in faults.items() if at is not None]
     return [it for at, it in enumerate(titled) if at not in faults]
 
@@ -179,7 +182,7 @@ class _Answers:
     def __init__(self, asked: Asked, anchors: List[Certificate], sent: List[Certificate], statements: List[Titled], verify: Optional[Judge]):
         self.asked, self.anchors, self.sent, self.statements = asked, anchors, sent, statements
         self.texts = [octets for _, octets in statements]
-        judged = judged_by(different(peer_questions(sent, anchors, self.texts)), verify)
+        judged = judged_by(different(peer_questions(sent, anchors, self.texts, profile=asked.profile)), verify)
         self.judgements = {question.fingerprint: judgement for question, judgement in judged}
         self.good = [print for print, judgement in self.judgements.items() if judgement is Judgement.GOOD]
         messages = {question.message for question, _ in judged}
@@ -188,7 +191,7 @@ class _Answers:
     def at(self, moment: int) -> Result:
         """The answer at a moment."""
         return validate_peer(self.sent, self.anchors, self.texts, moment, self.asked.purpose, fingerprints=self.good, name=self.asked.name,
-                             limits=self.asked.limits)
+                             limits=self.asked.limits, profile=self.asked.profile)
 
     def facts(self, refused: Tuple[Refused, ...]) -> Facts:
         result = self.at(self.asked.moment)
@@ -216,10 +219,10 @@ class _Answers:
         """A statement, with the library's verdict on each certificate of the path under its issuer by this statement alone."""
         said = []
         for number, (above, one) in enumerate(zip(path, path[1:]), 1):
-            result = validate(above, [one], [octets], self.asked.moment, fingerprints=self.good)
+            result = validate(above, [one], [octets], self.asked.moment, fingerprints=self.good, profile=self.asked.profile)
             if result.verdict in (Verdict.VALID, Verdict.REVOKED):
                 said.append(Said(number, result))
-        return Statement(title, octets, shown_statement(octets), tuple(said))
+        return Statement(title, octets, shown_statement(octets, self.asked.profile), tuple(said))
 
     def _over_time(self, result: Result, statements: Tuple[Statement, ...]) -> OverTime:
         """The answers in all stretches between the moments at which a certificate or a statement begins or ends to count."""

@@ -20,7 +20,7 @@ from ._names import Identity
 from ._peers import sent_by
 from ._pem import Path
 from ._profile import Profile
-from ._program import program_path
+from ._program import front_of, program_path
 from ._query import Search
 from ._questions import SignatureQuestion, ask
 from ._reference import Reference, speaks_for
@@ -138,9 +138,8 @@ class Party:
         if not isinstance(profile, Profile):
             raise TypeError(f"profile: a Profile is wanted, not {type(profile).__name__}")
         front = [program] if isinstance(program, str) else list(program or [program_path()])
-        wide = ["--profile", profile.value] if profile is Profile.WIDE else []
         options = [] if verdicts is None else ["--verdicts", os.fsdecode(verdicts)]
-        words = [*front, *wide, "session", "--store", os.fsdecode(store), *options]
+        words = [*front, *front_of(profile), "session", "--store", os.fsdecode(store), *options]
         # The first request of a process is answered once the store is open, and changes nothing in it.
         self._begin(lambda: ProcessEnds(words), ["forget"], verify, limits, folder)
 

@@ -55,12 +55,19 @@ def sent_by(certificates: Iterable[Value]) -> List[Value]:
     return sent
 
 
+def certificate_in(value: Value, profile: Profile) -> Certificate:
+    """The certificate that the value is, if it can be read in the profile as one of a path."""
+    certificate = Certificate.from_der(value)
+    Query(certificate, [certificate], [], profile=profile).questions()
+    return certificate
+
+
 def _readable(certificates: List[Value], profile: Profile) -> Tuple[List[Value], Tuple[Ignored, ...]]:
     """The certificates that can be read in the profile, the first in any case; and which the others are, and why."""
     kept, ignored = certificates[:1], []
     for at, one in enumerate(certificates[1:], 1):
         try:
-            Query(Certificate.from_der(one), [one], [], profile=profile).questions()
+            certificate_in(one, profile)
         except Fault as fault:
             origin = origin_of(one)
             told = Fault(fault.number, fault.offset, fault.der, Text.CERTIFICATES, at, origin)

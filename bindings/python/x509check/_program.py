@@ -7,6 +7,7 @@ import subprocess
 from typing import List, Union
 
 from ._faults import Fault
+from ._profile import Profile
 from ._verdicts import Reason, RevocationReason
 
 _HERE = os.path.dirname(os.path.realpath(__file__))
@@ -31,6 +32,11 @@ def program_path() -> str:
     if not found:
         raise ProgramMissing("the program x509check is not there; build it by `make`, or name it in X509CHECK")
     return found
+
+
+def front_of(profile: Profile) -> List[str]:
+    """The words in front of a command in the profile."""
+    return ["--profile", profile.value] if profile is Profile.WIDE else []
 
 
 def _topic(it: Union[int, Fault, Reason, RevocationReason]) -> str:

@@ -13,6 +13,7 @@ from ._markup import Child, Element, add, page, tag
 from ._faults import Text
 from ._names import Identity, name_from_shown, name_text
 from ._pem import Kind, printable
+from ._profile import Profile
 from ._program import explain, version_lines
 from ._query import Limits
 from ._reference import Reference
@@ -44,6 +45,7 @@ def report(
     ignore_unreadable: bool = False,
     ignore_unreadable_certificates: bool = False,
     limits: Optional[Limits] = None,
+    profile: Profile = Profile.STATED,
 ) -> str:
     """A report on what a peer sent: one HTML page that holds all it needs, and reaches for nothing outside. The arguments are those of
     `validate_peer`, whose verdict it tells, with the path, what is said of each signature, what each statement says of each certificate of
@@ -55,7 +57,8 @@ def report(
     The words are those of the program, which has to be there: ProgramMissing is raised without it. A moment, a purpose, a name or limits
     that are none raise as in `validate_peer`.
     """
-    asked = _asked(certificates, anchors, statements, at, purpose, name, limits, ignore_unreadable, ignore_unreadable_certificates)
+    asked = _asked(
+        certificates, anchors, statements, at, purpose, name, limits, ignore_unreadable, ignore_unreadable_certificates, profile)
     facts = facts_of(asked, verify)
     return _page(_title(facts), [_head(facts), *_sections(facts)])
 
@@ -73,6 +76,7 @@ def report_on_two(
     ignore_unreadable: bool = False,
     ignore_unreadable_certificates: bool = False,
     limits: Optional[Limits] = None,
+    profile: Profile = Profile.STATED,
 ) -> str:
     """The reports of two parties beside each other, who were sent the same and hold other statements: both verdicts, now and over time, and
     which statements only one of them holds. Otherwise as `report`.
@@ -80,20 +84,21 @@ def report_on_two(
     sent, tops = listed("certificates", certificates), listed("anchors", anchors)
     both = []
     for held in (statements, other_statements):
-        asked = _asked(sent, tops, held, at, purpose, name, limits, ignore_unreadable, ignore_unreadable_certificates)
+        asked = _asked(sent, tops, held, at, purpose, name, limits, ignore_unreadable, ignore_unreadable_certificates, profile)
         both.append(facts_of(asked, verify))
     return _page(f"{_title(both[0])}: two parties", [_heads_of_two(both), *_sections_of_two(both)])
 
 
 def _asked(certificates: Iterable[Value], anchors: Iterable[Value], statements: Iterable[Value], at: Moment, purpose: Optional[str],
-           name: Optional[Reference], limits: Optional[Limits], ignore_unreadable: bool, ignore_unreadable_certificates: bool) -> Asked:
+           name: Optional[Reference], limits: Optional[Limits], ignore_unreadable: bool, ignore_unreadable_certificates: bool,
+           profile: Profile) -> Asked:
     sent = listed("certificates", certificates)
     if not sent:
         raise ValueError("certificates: the certificate in question is wanted, and there is none")
     if purpose is not None:
         dotted_purpose(purpose)
     return Asked(sent, listed("anchors", anchors), listed("statements", statements), seconds_of(at), purpose, name, limits,
-                 ignore_unreadable, ignore_unreadable_certificates)
+                 ignore_unreadable, ignore_unreadable_certificates, profile)
 
 
 # ---- the page
@@ -357,6 +362,7 @@ def _evidence(facts: Facts) -> Element:
     limits = asked.limits or Limits()
     rows = [("moment", f"{moment_text(asked.moment)} ({asked.moment} s from 1970-01-01)"), ("purpose", asked.purpose or "none"),
             ("name", "none" if asked.name is None else printable(str(asked.name))),
+            ("profile", asked.profile.value),
             ("limits", f"{limits.signatures} signatures, {limits.steps} steps, {limits.verdicts} verdicts"),
             ("made by", "; ".join(version_lines()))]
     return _section("What was asked", _definitions(rows), tag("details", tag("summary", "SHA-256 of all that was handed in"), _digests(facts)))

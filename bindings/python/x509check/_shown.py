@@ -7,7 +7,8 @@ import tempfile
 from typing import List, NamedTuple, Optional, Tuple
 
 from ._pem import Kind
-from ._program import ProgramMissing, program_path
+from ._profile import Profile
+from ._program import ProgramMissing, front_of, program_path
 
 _SECONDS = 60
 # Of what the program prints so much is read; the entries of a list stand at its end.
@@ -74,9 +75,9 @@ def _lines(words: List[str], octets: bytes) -> Optional[Tuple[List[str], bool]]:
     return (lines[:-1] if is_cut else lines), is_cut
 
 
-def shown_as(kind: Kind, octets: bytes) -> Optional[Shown]:
-    """What the program shows of a value of this kind, if it is one."""
-    found = _lines(["show", "--as", _KINDS[kind], "--all"], octets)
+def shown_as(kind: Kind, octets: bytes, profile: Profile = Profile.STATED) -> Optional[Shown]:
+    """What the program shows of a value of this kind, if it is one in the profile."""
+    found = _lines([*front_of(profile), "show", "--as", _KINDS[kind], "--all"], octets)
     if found is None:
         return None
     lines, is_cut = found
@@ -84,9 +85,9 @@ def shown_as(kind: Kind, octets: bytes) -> Optional[Shown]:
     return Shown(kind, tuple(words), is_cut)
 
 
-def shown_statement(octets: bytes) -> Shown:
-    """What it shows of a list or a response that the library has read."""
-    found = shown_as(Kind.LIST, octets) or shown_as(Kind.RESPONSE, octets)
+def shown_statement(octets: bytes, profile: Profile) -> Shown:
+    """What it shows of a list or a response that the library has read in the profile."""
+    found = shown_as(Kind.LIST, octets, profile) or shown_as(Kind.RESPONSE, octets, profile)
     if found is None:
         raise ProgramMissing("the program x509check refuses a statement that the library reads")
     return found
