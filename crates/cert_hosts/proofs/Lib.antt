@@ -1,2 +1,4 @@
 mod Told
 mod OneAnswer
+mod WalkedHosts
+pub mod Laws

@@ -1,24 +1,17 @@
 -- Values say one thing, or the first that is malformed is one.
-use Rattle.std.proofs.Common.{◌≡◌, ◌⊎◌, ◌<◌, ℕ, List, [], ◌∷◌, ◌++◌, Bool, true, false, filter, Option, None, Some, Result, Ok, Err, refl, sym, ap, subst, ◌∙◌, inl, inr}
+use Rattle.std.proofs.Common.{◌≡◌, ◌⊎◌, ℕ, List, [], ◌∷◌, ◌++◌, Bool, true, false, filter, Option, None, Some, Ok, Err, refl, sym, ap, subst, ◌∙◌, inl, inr}
 use Rattle.std.specs.List.{AllZip}
 use Rattle.std.proofs.lemmas.List.Elements.{filter-append}
 use Rattle.asn.specs.Place.{Place, body}
 use Rattle.asn.proofs.Laws.{ok_is}
 use Rattle.cert.specs.declared.fault.CertRule.{CertRule}
-use Rattle.names_hosts.specs.Laws.{MailNameIsOne, MailBaseIsOne, HostBaseIsOne, UriHostIsOne}
 use Rattle.names_hosts.specs.Mail.{MailText, MailNames}
 use Rattle.names_hosts.specs.Hosts.{HostNames}
+use Rattle.names_hosts.proofs.Laws.{mail_name_is_one, mail_base_is_one, host_base_is_one, uri_host_is_one}
 use Rattle.cert_hosts.specs.CertificateHosts.{CertificateHosts}
 use Rattle.cert_hosts.specs.SaidValues.{Said, mail_name, email_value, uri_name, mail_base, host_base, said_values}
-use Rattle.cert_hosts.specs.Reading.{is_mail, is_uri, is_mail_base, is_host_base, IsMailAt, IsUriAt, IsMailBaseAt, IsHostBaseAt, AreSaid, IsMalformed, IsFirstMalformed, SaysHosts, HasMalformed, IsRefusedAt}
+use Rattle.cert_hosts.specs.Reading.{is_mail, is_uri, is_mail_base, is_host_base, IsMailAt, IsUriAt, IsMailBaseAt, IsHostBaseAt, AreSaid, IsMalformed, IsFirstMalformed}
 use Rattle.cert_hosts.specs.Laws.{HostsHaveOneAnswer, SaidIsNotRefused, RefusalIsOne}
-
--- what the layer below says of one text
-pub record Laws : Type 0 where
-  pub name : MailNameIsOne
-  pub mail : MailBaseIsOne
-  pub base : HostBaseIsOne
-  pub uri : UriHostIsOne
 
 -- what is said of each is one thing
 zip_one : {X : Type 0} (R : Said → X → Type 0) → ((value : Said) (x y : X) → R value x → R value y → x ≡ y) → (values : List Said) (xs ys : List X) → AllZip R values xs → AllZip R values ys → xs ≡ ys
@@ -97,61 +90,60 @@ one_first values r s i j a b =
       ]
     ]
 
-module _ (laws : Laws) where
-  one_mail : (value : Said) (x y : MailText) → IsMailAt value x → IsMailAt value y → x ≡ y
-  one_mail (mail_name value) x y a b = laws.name (body value) x y a b
-  one_mail (email_value value) x y a b = laws.name (body value) x y a.1 b.1
-  one_mail (uri_name value) x y a b = absurd a
-  one_mail (mail_base permitted value) x y a b = absurd a
-  one_mail (host_base permitted value) x y a b = absurd a
+one_mail : (value : Said) (x y : MailText) → IsMailAt value x → IsMailAt value y → x ≡ y
+one_mail (mail_name value) x y a b = mail_name_is_one (body value) x y a b
+one_mail (email_value value) x y a b = mail_name_is_one (body value) x y a.1 b.1
+one_mail (uri_name value) x y a b = absurd a
+one_mail (mail_base permitted value) x y a b = absurd a
+one_mail (host_base permitted value) x y a b = absurd a
 
-  one_uri : (value : Said) (x y : Option (List ℕ)) → IsUriAt value x → IsUriAt value y → x ≡ y
-  one_uri (uri_name value) None None a b = refl
-  one_uri (uri_name value) None (Some y) a b = absurd (a y b)
-  one_uri (uri_name value) (Some x) None a b = absurd (b x a)
-  one_uri (uri_name value) (Some x) (Some y) a b = ap (λ (l : List ℕ). Some l) (laws.uri (body value) x y a b)
-  one_uri (mail_name value) x y a b = absurd a
-  one_uri (email_value value) x y a b = absurd a
-  one_uri (mail_base permitted value) x y a b = absurd a
-  one_uri (host_base permitted value) x y a b = absurd a
+one_uri : (value : Said) (x y : Option (List ℕ)) → IsUriAt value x → IsUriAt value y → x ≡ y
+one_uri (uri_name value) None None a b = refl
+one_uri (uri_name value) None (Some y) a b = absurd (a y b)
+one_uri (uri_name value) (Some x) None a b = absurd (b x a)
+one_uri (uri_name value) (Some x) (Some y) a b = ap (λ (l : List ℕ). Some l) (uri_host_is_one (body value) x y a b)
+one_uri (mail_name value) x y a b = absurd a
+one_uri (email_value value) x y a b = absurd a
+one_uri (mail_base permitted value) x y a b = absurd a
+one_uri (host_base permitted value) x y a b = absurd a
 
-  one_mail_base : (value : Said) (x y : MailNames) → IsMailBaseAt value x → IsMailBaseAt value y → x ≡ y
-  one_mail_base (mail_base permitted value) x y a b = laws.mail (body value) x y a b
-  one_mail_base (mail_name value) x y a b = absurd a
-  one_mail_base (email_value value) x y a b = absurd a
-  one_mail_base (uri_name value) x y a b = absurd a
-  one_mail_base (host_base permitted value) x y a b = absurd a
+one_mail_base : (value : Said) (x y : MailNames) → IsMailBaseAt value x → IsMailBaseAt value y → x ≡ y
+one_mail_base (mail_base permitted value) x y a b = mail_base_is_one (body value) x y a b
+one_mail_base (mail_name value) x y a b = absurd a
+one_mail_base (email_value value) x y a b = absurd a
+one_mail_base (uri_name value) x y a b = absurd a
+one_mail_base (host_base permitted value) x y a b = absurd a
 
-  one_host_base : (value : Said) (x y : HostNames) → IsHostBaseAt value x → IsHostBaseAt value y → x ≡ y
-  one_host_base (host_base permitted value) x y a b = laws.base (body value) x y a b
-  one_host_base (mail_name value) x y a b = absurd a
-  one_host_base (email_value value) x y a b = absurd a
-  one_host_base (uri_name value) x y a b = absurd a
-  one_host_base (mail_base permitted value) x y a b = absurd a
+one_host_base : (value : Said) (x y : HostNames) → IsHostBaseAt value x → IsHostBaseAt value y → x ≡ y
+one_host_base (host_base permitted value) x y a b = host_base_is_one (body value) x y a b
+one_host_base (mail_name value) x y a b = absurd a
+one_host_base (email_value value) x y a b = absurd a
+one_host_base (uri_name value) x y a b = absurd a
+one_host_base (mail_base permitted value) x y a b = absurd a
 
-  one_said : (values : List Said) (a b : CertificateHosts) → AreSaid values a → AreSaid values b → a ≡ b
-  one_said values a b p q =
-      let mail = zip_one IsMailAt one_mail (filter is_mail values) a.mail b.mail p.mail q.mail in
-      let hosts = zip_one IsUriAt one_uri (filter is_uri values) a.hosts b.hosts p.uris q.uris in
-      let permitted_mail = zip_one IsMailBaseAt one_mail_base (filter (is_mail_base true) values) a.permitted_mail b.permitted_mail p.permitted_mail q.permitted_mail in
-      let excluded_mail = zip_one IsMailBaseAt one_mail_base (filter (is_mail_base false) values) a.excluded_mail b.excluded_mail p.excluded_mail q.excluded_mail in
-      let permitted_hosts = zip_one IsHostBaseAt one_host_base (filter (is_host_base true) values) a.permitted_hosts b.permitted_hosts p.permitted_hosts q.permitted_hosts in
-      let excluded_hosts = zip_one IsHostBaseAt one_host_base (filter (is_host_base false) values) a.excluded_hosts b.excluded_hosts p.excluded_hosts q.excluded_hosts in
-      λ i. record {
-        mail = mail i;
-        hosts = hosts i;
-        permitted_mail = permitted_mail i;
-        excluded_mail = excluded_mail i;
-        permitted_hosts = permitted_hosts i;
-        excluded_hosts = excluded_hosts i;
-      }
+one_said : (values : List Said) (a b : CertificateHosts) → AreSaid values a → AreSaid values b → a ≡ b
+one_said values a b p q =
+    let mail = zip_one IsMailAt one_mail (filter is_mail values) a.mail b.mail p.mail q.mail in
+    let hosts = zip_one IsUriAt one_uri (filter is_uri values) a.hosts b.hosts p.uris q.uris in
+    let permitted_mail = zip_one IsMailBaseAt one_mail_base (filter (is_mail_base true) values) a.permitted_mail b.permitted_mail p.permitted_mail q.permitted_mail in
+    let excluded_mail = zip_one IsMailBaseAt one_mail_base (filter (is_mail_base false) values) a.excluded_mail b.excluded_mail p.excluded_mail q.excluded_mail in
+    let permitted_hosts = zip_one IsHostBaseAt one_host_base (filter (is_host_base true) values) a.permitted_hosts b.permitted_hosts p.permitted_hosts q.permitted_hosts in
+    let excluded_hosts = zip_one IsHostBaseAt one_host_base (filter (is_host_base false) values) a.excluded_hosts b.excluded_hosts p.excluded_hosts q.excluded_hosts in
+    λ i. record {
+      mail = mail i;
+      hosts = hosts i;
+      permitted_mail = permitted_mail i;
+      excluded_mail = excluded_mail i;
+      permitted_hosts = permitted_hosts i;
+      excluded_hosts = excluded_hosts i;
+    }
 
-  same_values : (tbs : Place) (v w : List Said) → said_values tbs ≡ Ok v → said_values tbs ≡ Ok w → v ≡ w
-  same_values tbs v w a b = ok_is {E = CertRule × ℕ} v w (sym a ∙ b)
+same_values : (tbs : Place) (v w : List Said) → said_values tbs ≡ Ok v → said_values tbs ≡ Ok w → v ≡ w
+same_values tbs v w a b = ok_is {E = CertRule × ℕ} v w (sym a ∙ b)
 
-  pub one_answer : HostsHaveOneAnswer
-  one_answer tbs one other a b =
-      one_said b.values one other (subst (λ v. AreSaid v one) (same_values tbs a.values b.values a.found b.found) a.said) b.said
+pub one_answer : HostsHaveOneAnswer
+one_answer tbs one other a b =
+    one_said b.values one other (subst (λ v. AreSaid v one) (same_values tbs a.values b.values a.found b.found) a.said) b.said
 
 pub either : SaidIsNotRefused
 either tbs hosts rule at says (inl fails) = let never : Ok says.values ≡ Err (rule, at) = sym says.found ∙ fails in absurd cc

@@ -1,5 +1,5 @@
 -- How the mail addresses, URIs and bases of a certificate are read, and which is the first that is malformed.
-use Rattle.std.specs.Prelude.{◌≡◌, ◌⊎◌, ◌==◌, ℕ, Bool, true, false, List, [], ◌∷◌, ◌++◌, Option, Some, None, filter, IsTrue, Result, Ok, Err}
+use Rattle.std.specs.Prelude.{◌≡◌, ◌⊎◌, ℕ, Bool, true, false, List, [], ◌∷◌, ◌++◌, Option, Some, None, filter, IsTrue, Result, Ok, Err}
 use Rattle.std.specs.List.{AllZip}
 use Rattle.asn.specs.Place.{Place, tag, body}
 use Rattle.names.specs.AttributeValue.{is_text}

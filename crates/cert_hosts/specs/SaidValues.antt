@@ -1,9 +1,8 @@
 -- Where a certificate has mail addresses, URIs, and bases of constraints on them, in the order in which they stand in it: the emailAddresses
 -- of its subject (RFC 5280, 4.1.2.6), and what its extensions subjectAltName (4.2.1.6) and nameConstraints (4.2.1.10) have of these forms.
-use Rattle.std.specs.Prelude.{◌==◌, ◌||◌, ℕ, Bool, true, false, List, [], ◌∷◌, ◌++◌, map, Option, Some, None, Result, Ok, if◌then◌else◌}
+use Rattle.std.specs.Prelude.{◌==◌, ℕ, Bool, true, false, List, [], ◌∷◌, ◌++◌, map, Option, Some, None, Result, Ok, if◌then◌else◌}
 use Rattle.std.specs.Global.{Vec}
 use Rattle.std.specs.Str.{bytes_eq}
-use Rattle.asn.specs.declared.tlv.Tlv.{Tlv}
 use Rattle.asn.specs.Place.{Place, seen_tlv, tag, body}
 use Rattle.asn.specs.Members.{Members, members}
 use Rattle.asn.specs.Outermost.{nested}

@@ -4,11 +4,13 @@ ghost use Rattle.std.specs.Prelude.{◌≡◌, IfOk, IfErr, OnOk, map};
 ghost use Rattle.std.specs.Option.{option_copied};
 ghost use Rattle.asn.specs.Reading.{seen_tlv};
 ghost use Rattle.cert.specs.Certificate.{seen_certificate};
+ghost use Rattle.cert.specs.Fault.{GivesUnlessFull};
 ghost use Rattle.names_hosts.specs.Hosts.{host_names};
 ghost use Rattle.names_hosts.specs.Mail.{mail_text, mail_names};
 ghost use Rattle.cert_hosts.specs.CertificateHosts.{seen_hosts, no_hosts, with_mail, with_uri, with_mail_base, with_host_base};
 ghost use Rattle.cert_hosts.specs.SaidValues.{seen_said, mail_name, email_value, uri_name, mail_base, host_base};
 ghost use Rattle.cert_hosts.specs.Reading.{IsMailAt, IsUriAt, IsMailBaseAt, IsHostBaseAt, IsMalformed, AreSaid, Tells, IsFirstFor, SaysHosts, IsRefusedFor};
+ghost use Rattle.cert_hosts.specs.HostsWalk.{certificate_hosts};
 
 use crate::said::Said;
 use crate::values::said_values;
@@ -236,6 +238,8 @@ impl<'a> CertificateHosts<'a> {
         ensures reads { IfOk result (λ read.
             SaysHosts (seen_certificate certificate.now).tbs (seen_hosts read)) }
         ensures refused { IfErr result (IsRefusedFor (seen_certificate certificate.now).tbs) }
+        ensures gives { GivesUnlessFull seen_hosts result
+            (certificate_hosts (seen_certificate certificate.now).tbs) }
     {
         let values = said_values(alloc, certificate.tbs)?;
         CertificateHosts::of_values(alloc, &values)

@@ -5,10 +5,10 @@ mod alternative_names;
 mod certificate_hosts;
 mod constraints;
 mod contained;
-mod laws;
+mod one_answer;
 mod said;
 mod subject;
 mod values;
 
 pub use certificate_hosts::CertificateHosts;
-pub use laws::certificate_hosts_laws;
+pub use one_answer::certificate_hosts_laws;

@@ -1,5 +1,9 @@
 mod HostTexts
 mod HostLaws
+mod HostTests
 mod UriTexts
+mod FirstCuts
 mod MailLaws
+mod MailTests
+mod UriTests
 pub mod Laws

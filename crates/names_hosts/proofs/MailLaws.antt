@@ -12,7 +12,7 @@ use Rattle.names_hosts.proofs.HostLaws.{host_base_is_one, hosts_inside_is_exact,
 use Rattle.names_hosts.proofs.UriTexts.{none_of, one_cut}
 
 -- the at sign cuts a mail address
-mail_cut : (text local host : List ℕ) → IsMailbox text local host → IsCut (64 ∷ []) text local (64 ∷ host)
+pub mail_cut : (text local host : List ℕ) → IsMailbox text local host → IsCut (64 ∷ []) text local (64 ∷ host)
 mail_cut text local host m = record {
   joined = m.divided.joined;
   none = none_of is_local_octet 64 local refl m.divided.octets;

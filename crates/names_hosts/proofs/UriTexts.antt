@@ -103,7 +103,7 @@ no_scheme uri rest front more b cut = subst IsScheme (sym (scheme_cut uri rest f
 pub user_has_no_at : (user : List ℕ) → AllPass is_user_octet user → HasNone (64 ∷ []) user
 user_has_no_at user h = none_of is_user_octet 64 user refl h
 
-at_user : (authority rest user : List ℕ) → authority ≡ user ++ rest → (at : IsUserAt user) → IsCut (64 ∷ []) authority at.user (64 ∷ rest)
+pub at_user : (authority rest user : List ℕ) → authority ≡ user ++ rest → (at : IsUserAt user) → IsCut (64 ∷ []) authority at.user (64 ∷ rest)
 at_user authority rest user e at = record {
   joined = e ∙ (ap (λ (l : List ℕ). l ++ rest) at.joined ∙ append_assoc at.user (64 ∷ []) rest);
   none = user_has_no_at at.user at.octets;
@@ -152,7 +152,7 @@ behind_at_sign authority front more first octets cut = record {
 }
 
 -- ports
-host_cut : (text host : List ℕ) (h : IsHostAndPort text host) → IsCut (58 ∷ []) text host h.port
+pub host_cut : (text host : List ℕ) (h : IsHostAndPort text host) → IsCut (58 ∷ []) text host h.port
 host_cut text host h = record {
   joined = h.joined;
   none = none_of is_host_octet 58 host refl h.is_host.octets;

@@ -1,7 +1,8 @@
-use Rattle.std.specs.Prelude.{◌≡◌, ◌⊎◌, ◌↔◌, ℕ, List}
-use Rattle.names_hosts.specs.Hosts.{HostNames, IsAmongHosts, AreHostsOf, AreHostsInside}
-use Rattle.names_hosts.specs.Mail.{MailText, MailNames, IsMailName, IsMailOf, IsAmongMail, IsMailInside}
-use Rattle.names_hosts.specs.Uri.{IsHostOfUri}
+use Rattle.std.specs.Prelude.{◌≡◌, ◌⊎◌, ◌↔◌, ℕ, List, Some, IsTrue}
+use Rattle.names_identity.specs.Host.{IsHost}
+use Rattle.names_hosts.specs.Hosts.{HostNames, IsAmongHosts, AreHostsOf, AreHostsInside, is_host, host_base_of}
+use Rattle.names_hosts.specs.Mail.{MailText, MailNames, IsMailName, IsMailOf, IsAmongMail, IsMailInside, mail_of, mail_base_of}
+use Rattle.names_hosts.specs.Uri.{IsHostOfUri, uri_host}
 
 -- a base says one thing
 abbrev pub HostBaseIsOne : Type 0
@@ -41,3 +42,20 @@ abbrev pub SharedMailIsNested : Type 0
 SharedMailIsNested =
     (x : MailText) (s t : MailNames) → IsAmongMail x s → IsAmongMail x t →
     IsMailInside s t ⊎ IsMailInside t s
+
+-- the tests and functions decide the relations
+
+abbrev pub HostTestIsExact : Type 0
+HostTestIsExact = (text : List ℕ) → (IsTrue (is_host text) ↔ IsHost text)
+
+abbrev pub HostBaseIsExact : Type 0
+HostBaseIsExact = (base : List ℕ) (names : HostNames) → ((host_base_of base ≡ Some names) ↔ AreHostsOf base names)
+
+abbrev pub MailNameIsExact : Type 0
+MailNameIsExact = (text : List ℕ) (name : MailText) → ((mail_of text ≡ Some name) ↔ IsMailName text name)
+
+abbrev pub MailBaseIsExact : Type 0
+MailBaseIsExact = (base : List ℕ) (names : MailNames) → ((mail_base_of base ≡ Some names) ↔ IsMailOf base names)
+
+abbrev pub UriHostIsExact : Type 0
+UriHostIsExact = (uri host : List ℕ) → ((uri_host uri ≡ Some host) ↔ IsHostOfUri uri host)

@@ -1,9 +1,11 @@
 -- The host of a URI (RFC 3986, 3.1 and 3.2), to which the constraints on URIs apply (RFC 5280, 4.2.1.10).
-use Rattle.std.specs.Prelude.{◌≡◌, ◌⊎◌, ◌==◌, ◌||◌, ℕ, List, [], ◌∷◌, ◌++◌, Bool, false, true, IsTrue}
-use Rattle.std.specs.List.{All, AllPass, list_any}
+use Rattle.std.specs.Prelude.{◌≡◌, ◌⊎◌, ◌==◌, ◌||◌, ◌&&◌, ℕ, List, [], ◌∷◌, ◌++◌, Bool, false, true, IsTrue, Option, Some, None, if◌then◌else◌}
+use Rattle.std.specs.Bool.{then_some}
+use Rattle.std.specs.Option.{option_and_then}
+use Rattle.std.specs.List.{All, AllPass, list_any, list_all, before_first, after_first}
 use Rattle.std.specs.Char.{is_ascii_alphabetic, is_ascii_alphanumeric, is_ascii_digit}
 use Rattle.names_identity.specs.Host.{IsHost}
-use Rattle.names_hosts.specs.Hosts.{HostNames, IsAmongHosts}
+use Rattle.names_hosts.specs.Hosts.{HostNames, IsAmongHosts, is_host}
 
 -- the octet is one of these
 abbrev pub is_one_of : List ℕ → ℕ → Bool
@@ -113,3 +115,51 @@ pub record IsUriClearOf (uri : List ℕ) (names : HostNames) : Type 0 where
   pub host : List ℕ
   pub is_host : IsHostOfUri uri host
   pub clear : IsAmongHosts host names → ⊥
+
+-- the host of a URI, read part by part
+
+-- what stands before the first octet that is one of these, or all if there is none; and what stands behind it, or nothing
+abbrev pub before_any : List ℕ → List ℕ → List ℕ
+before_any ends text = before_first (is_one_of ends) text
+
+abbrev pub behind_any : List ℕ → List ℕ → List ℕ
+behind_any ends text = after_first (is_one_of ends) text
+
+abbrev pub colon : List ℕ
+colon = 58 ∷ []
+
+abbrev pub at_sign : List ℕ
+at_sign = 64 ∷ []
+
+-- scheme = ALPHA *( ALPHA / DIGIT / "+" / "-" / "." ) (RFC 3986, 3.1)
+abbrev pub is_scheme : List ℕ → Bool
+is_scheme [] = false
+is_scheme (first ∷ rest) = is_ascii_alphabetic first && list_all is_scheme_octet rest
+
+-- what stands behind two slashes
+abbrev pub behind_slashes : List ℕ → Option (List ℕ)
+behind_slashes [] = None
+behind_slashes (one ∷ []) = None
+behind_slashes (one ∷ other ∷ rest) = then_some (one == 47 && other == 47) rest
+
+-- URI = scheme ":" "//" rest. If there is no colon, nothing stands behind it, and that has no slashes.
+abbrev pub behind_scheme : List ℕ → Option (List ℕ)
+behind_scheme uri = if is_scheme (before_any colon uri) then behind_slashes (behind_any colon uri) else None
+
+-- authority = [ userinfo "@" ] rest (RFC 3986, 3.2.1)
+abbrev pub behind_user : List ℕ → Option (List ℕ)
+behind_user authority =
+    if list_any (is_one_of at_sign) authority then then_some (list_all is_user_octet (before_any at_sign authority)) (behind_any at_sign authority)
+    else Some authority
+
+-- rest = host [ ":" port ], where the port is digits, or nothing (RFC 3986, 3.2.2 and 3.2.3)
+abbrev pub before_port : List ℕ → Option (List ℕ)
+before_port rest = then_some (is_host (before_any colon rest) && list_all is_ascii_digit (behind_any colon rest)) (before_any colon rest)
+
+-- the host of an authority, if it is a DNS name
+abbrev pub host_in : List ℕ → Option (List ℕ)
+host_in authority = option_and_then before_port (behind_user authority)
+
+-- the host of a URI: of the authority, which goes up to a slash, a question mark, a number sign, or the end of the URI (RFC 3986, 3.2)
+unfoldable pub uri_host : List ℕ → Option (List ℕ)
+uri_host uri = option_and_then (λ rest. host_in (before_any authority_ends rest)) (behind_scheme uri)

@@ -4,7 +4,7 @@ ghost use Rattle.std.specs.Prelude.{◌≡◌, ◌↔◌, ◌-◌, IsTrue, IfSom
 ghost use Rattle.names.specs.Dns.{is_dot};
 ghost use Rattle.names_identity.specs.Host.{IsHost};
 ghost use Rattle.names_hosts.specs.Hosts.{HostNames, host_names, AreHostsOf, IsSameHost, IsAmongHosts, AreHostsInside};
-ghost use Rattle.names_hosts.specs.Laws.{HostBaseIsOne, HostsInsideIsExact, SharedHostsAreNested};
+ghost use Rattle.names_hosts.specs.Laws.{HostBaseIsOne, HostsInsideIsExact, SharedHostsAreNested, HostTestIsExact, HostBaseIsExact};
 
 use names::Domain;
 use names_identity::Identity;
@@ -84,9 +84,12 @@ impl HostBase<'_> {
     }
 }
 
-/// A base says one thing; `inside` is exact; and two bases that share a host are nested.
+/// A base says one thing; `inside` is exact; and two bases that share a host are nested. The definitions `is_host` and `host_base_of`
+/// give just what `IsHost` and `AreHostsOf` say.
 pub fn host_laws()
     ensures one { HostBaseIsOne }
     ensures inside { HostsInsideIsExact }
     ensures nested { SharedHostsAreNested }
+    ensures exact_host { HostTestIsExact }
+    ensures exact_base { HostBaseIsExact }
 {}

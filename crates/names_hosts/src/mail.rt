@@ -2,7 +2,7 @@
 
 ghost use Rattle.std.specs.Prelude.{◌≡◌, ◌↔◌, IsTrue, IfSome, Some, option_map};
 ghost use Rattle.names_hosts.specs.Mail.{MailText, mail_text, IsMailName, MailNames, mail_names, IsMailOf, IsSameMailbox, IsAmongMail, IsMailInside};
-ghost use Rattle.names_hosts.specs.Laws.{MailNameIsOne, MailBaseIsOne, MailInsideIsExact, SharedMailIsNested};
+ghost use Rattle.names_hosts.specs.Laws.{MailNameIsOne, MailBaseIsOne, MailInsideIsExact, SharedMailIsNested, MailNameIsExact, MailBaseIsExact};
 
 use crate::hosts::{HostBase, is_same_host};
 use names_identity::Identity;
@@ -92,10 +92,13 @@ impl MailBase<'_> {
     }
 }
 
-/// A text is one mail address, and a base says one thing; `inside` is exact; and two bases that share a mail address are nested.
+/// A text is one mail address, and a base says one thing; `inside` is exact; and two bases that share a mail address are nested. The
+/// definitions `mail_of` and `mail_base_of` give just what `IsMailName` and `IsMailOf` say.
 pub fn mail_laws()
     ensures name { MailNameIsOne }
     ensures base { MailBaseIsOne }
     ensures inside { MailInsideIsExact }
     ensures nested { SharedMailIsNested }
+    ensures exact_name { MailNameIsExact }
+    ensures exact_base { MailBaseIsExact }
 {}

@@ -5,7 +5,7 @@ ghost use Rattle.std.specs.List.{list_all, position};
 ghost use Rattle.std.specs.Char.{is_ascii_digit};
 ghost use Rattle.names_hosts.specs.Uri.{is_one_of, HasNone, IsCut, is_scheme_octet, IsScheme, HasAuthority, is_user_octet, IsBehindScheme, IsBehindUser, IsPortPart, IsHostAndPort, IsHostOfAuthority, IsHostOfUri, IsUriAmong, IsUriClearOf};
 ghost use Rattle.names_hosts.specs.Hosts.{host_names};
-ghost use Rattle.names_hosts.specs.Laws.{UriHostIsOne};
+ghost use Rattle.names_hosts.specs.Laws.{UriHostIsOne, UriHostIsExact};
 
 use crate::hosts::{HostBase, is_host};
 
@@ -189,7 +189,8 @@ impl HostBase<'_> {
     }
 }
 
-/// A URI has one host.
+/// A URI has one host, and the definition `uri_host` gives just that one.
 pub fn uri_laws()
     ensures one { UriHostIsOne }
+    ensures exact { UriHostIsExact }
 {}

@@ -1,4 +1,4 @@
-use Rattle.std.proofs.Common.{◌≡◌, map, length}
+use Rattle.std.proofs.Common.{◌≡◌, length}
 use Rattle.asn.specs.Members.{left}
 use Rattle.asn.specs.Walk.{each}
 use Rattle.cert_hosts.specs.SaidValues.{all_said, one_subtree}

@@ -1,0 +1,12 @@
+use Rattle.cert_hosts.proofs.OneAnswer.{one_answer, either, one_refusal}
+use Rattle.cert_hosts.proofs.WalkedHosts.{hosts_are_exact, refusals_are_exact}
+use Rattle.cert_hosts.proofs.one_answer.certificate_hosts_laws.Goals as goal
+
+pub returns : goal.returns
+returns c = record {
+  one = one_answer;
+  either = either;
+  refusal = one_refusal;
+  exact = hosts_are_exact;
+  exact_refusal = refusals_are_exact;
+}
