@@ -12,6 +12,9 @@ use vectors_ocsp::ocsp_response;
 /// number 05.
 type Row = (Profile, &'static [&'static str], Verdict);
 
+/// The points of that certificate.
+const NO_POINTS: &[&[&str]] = &[];
+
 const ROWS: &[Row] = &[
     (Wide, &["ocsp(R,05 good)"], Valid),
     (Wide, &["ocsp(R,#05 good)"], Valid),
@@ -83,8 +86,12 @@ fn holds(alloc: Global, row: &Row) -> Option<bool> {
     for text in responses {
         statements.push(ocsp_response(alloc, text, &[]).ok()?).ok()?;
     }
-    let judged = &[(&[], verdict)];
-    let (_answers, says) = delivered_and_asked(alloc, profile, &statements, judged)?;
+    let (_answers, says) = delivered_and_asked(
+        alloc,
+        profile,
+        &statements,
+        &[(NO_POINTS, verdict)],
+    )?;
     Some(says)
 }
 
