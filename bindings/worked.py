@@ -81,6 +81,8 @@ def extension(kind, octets, critical=False):
 
 
 def general_name(form, text):
+    if form == "mail":
+        return value(0x81, text.encode())
     if form == "dns":
         return value(0x82, text.encode())
     if form == "uri":
@@ -101,7 +103,7 @@ def certificate(text):
     said = options(text)
     last = dict(said)
     extensions = []
-    alternatives = [general_name(word, rest) for word, rest in said if word in ("dns", "uri", "ip")]
+    alternatives = [general_name(word, rest) for word, rest in said if word in ("mail", "dns", "uri", "ip")]
     if alternatives:
         extensions.append(extension("2.5.29.17", sequence(*alternatives)))
     if kind == "ca":
@@ -168,6 +170,7 @@ ROWS = [
     (["ca(A,R){permit dir Q}", "ee(T,A){empty}{dns x.example}"], [], MIDDLE, "unknown 1"),
     (["ca(A,R){permit uri example.com}", "ee(T,A){uri http://example.com/}"], [], MIDDLE, "invalid 2 8"),
     (["ca(A,R){permit uri example.com}", "ee(T,A)"], [], MIDDLE, "unknown 1"),
+    (["ca(A,R){exclude mail example.com}", "ee(T,A){mail a@example.org}"], [], MIDDLE, "invalid 2 8"),
     (["ca(A,R){permit dir T}", "ca(A,A){key A2}", "ee(T,A){signed A2}"], [], MIDDLE, "unknown 1"),
     (["ca(A,R){permit dir T}", "ca(A,A){key A2}"], [], MIDDLE, "invalid 2 6"),
     (["ca(A,R){permit ip 0A000000FF000000}", "ee(T,A){ip 0A010203}"], [], MIDDLE, "unknown 1"),

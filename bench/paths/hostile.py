@@ -31,6 +31,14 @@ def directory(text):
     return value(0xA4, name(text))
 
 
+def mail(text):
+    return value(0x81, text.encode())
+
+
+def uri(text):
+    return value(0x86, text.encode())
+
+
 def shuffled(bases):
     bases = list(bases)
     random.shuffle(bases)
@@ -94,6 +102,13 @@ def shapes():
     names = [dns("www.n%d.example" % k) for k in range(third)] + hosts[:third] + people[:third]
     yield "mixed_128_4096", 128, lambda _: mixed, none, names
     yield "strangers_128_4096", 128, none, strangers, one
+    boxes = [mail("u%d@n%d.example" % (k, k % 64)) for k in range(LIMIT)]
+    yield "mail_128_4096", 128, lambda _: boxes, none, boxes
+    yield "mail_excluded_128_4096", 128, none, lambda number: [mail("u%d@c%d.example" % (k, number)) for k in range(LIMIT)], boxes
+    sites = ["n%d.example" % k for k in range(LIMIT)]
+    pages = [uri("https://%s/" % site) for site in sites]
+    yield "uris_128_4096", 128, lambda _: [uri(site) for site in sites], none, pages
+    yield "uris_excluded_128_4096", 128, none, lambda number: [uri(".n%d.c%d.example" % (k, number)) for k in range(LIMIT)], pages
 
 
 def main(folder):

@@ -1,11 +1,13 @@
-"""Both profiles, over lists that are published at the point of a certificate (RFC 5280, 5.2.5), whose signatures all count as good."""
+"""Both profiles, over lists that are published at the point of a certificate (RFC 5280, 5.2.5), and over constraints on mail addresses
+(4.2.1.10). All signatures count as good."""
 
+import hashlib
 import os
 import unittest
 
 import x509check
 from x509check import (
-    Fault, Profile, Result, RevocationReason, Text, Verdict, peer_questions, questions, validate, validate_peer, validate_with_policies,
+    Fault, Profile, Reason, Result, RevocationReason, Text, Verdict, peer_questions, questions, validate, validate_peer, validate_with_policies,
 )
 
 from .authority import tried
@@ -86,6 +88,22 @@ class Profiles(unittest.TestCase):
         self.assertTrue("fault 48" in told(LEAF, [REVOKING]))
         self.assertTrue("fault 29" in told(MALFORMED, [], profile=Profile.WIDE))
         self.assertFalse("fault 29" in told(MALFORMED, []))
+
+    def test_constraints_on_mail_addresses_are_processed_in_the_wide_profile(self):
+        root, authority, other, leaf, stranger, malformed = (
+            tried(os.path.join("mail", name + ".der")) for name in ("root", "authority", "other", "leaf", "stranger", "malformed"))
+
+        def says(target, **words):
+            return validate(root, [authority, target], [], MIDDLE, verify=good, **words)
+        self.assertEqual(says(leaf), Result(Verdict.INVALID, 2, Reason.CONSTRAINT_FORM))
+        self.assertEqual(says(leaf, profile=Profile.WIDE), Result(Verdict.UNKNOWN, 1))
+        self.assertEqual(says(stranger, profile=Profile.WIDE), Result(Verdict.INVALID, 2, Reason.NOT_PERMITTED))
+        self.refused(Text.CERTIFICATES, 2, 18, says, malformed, profile=Profile.WIDE)
+        result = validate_peer([leaf, other, authority], [root], [], MIDDLE, verify=good, profile=Profile.WIDE)
+        self.assertEqual((result.verdict, result.certificate), (Verdict.UNKNOWN, 1))
+        self.assertIn(hashlib.sha256(authority).hexdigest(), [one.sha256 for one in result.path])
+        result = validate_peer([stranger, other, authority], [root], [], MIDDLE, verify=good, profile=Profile.WIDE)
+        self.assertEqual(result, Result(Verdict.NOT_FOUND))
 
     def test_another_profile_is_a_mistake(self):
         for profile in "wide", True, 1, None:

@@ -1,10 +1,11 @@
-//! Both profiles, over lists that are published at the point of a certificate (RFC 5280, 5.2.5), whose signatures all count as good.
+//! Both profiles, over lists that are published at the point of a certificate (RFC 5280, 5.2.5), and over constraints on mail addresses
+//! (4.2.1.10). All signatures count as good.
 
 use std::fs;
 
 use x509check::{
     judge_by, Answer, Error, Finding, Judgement, Limits, Peer, PolicyInputs, Profile, Query,
-    QueryWithPolicies, Search, SearchError, SpeakingError, Text, Verdict,
+    QueryWithPolicies, Reason, Search, SearchError, SpeakingError, Text, Verdict,
 };
 
 /// 2025-06-15T00:00:00Z
@@ -14,12 +15,16 @@ const REVOKED: Verdict = Verdict::Revoked {
     reason: 1,
 };
 
-fn read(name: &str) -> Vec<u8> {
+fn read_in(folder: &str, name: &str) -> Vec<u8> {
     fs::read(format!(
-        "{}/../testdata/points/{name}",
+        "{}/../testdata/{folder}/{name}",
         env!("CARGO_MANIFEST_DIR")
     ))
     .expect(name)
+}
+
+fn read(name: &str) -> Vec<u8> {
+    read_in("points", name)
 }
 
 /// What is said of a query about this leaf and by this list.
@@ -63,6 +68,36 @@ fn points_are_read_in_the_wide_profile() {
     assert_eq!(refused(refusal), (Some((Text::Certificates, 1)), 29));
     let refusal = answer(Profile::Stated, "malformed.der", "list.crl").unwrap_err();
     assert_eq!(refused(refusal), (Some((Text::Statements, 0)), 48));
+}
+
+#[test]
+fn constraints_on_mail_addresses_are_processed_in_the_wide_profile() {
+    let (root, authority) = (read_in("mail", "root.der"), read_in("mail", "authority.der"));
+    let judge = judge_by(|_| Judgement::Good);
+    let answer = |profile, leaf| {
+        let leaf = read_in("mail", leaf);
+        let query = Query {
+            anchor: &root,
+            path: &[&authority, &leaf],
+            statements: &[],
+            moment: MIDDLE,
+            purpose: None,
+            profile,
+        };
+        query.answer(&judge)
+    };
+    let invalid = |reason| Verdict::Invalid {
+        certificate: 2,
+        reason,
+    };
+    let told = answer(Profile::Stated, "leaf.der").unwrap();
+    assert_eq!(told.verdict, invalid(Reason::ConstraintForm));
+    let told = answer(Profile::Wide, "leaf.der").unwrap();
+    assert_eq!(told.verdict, Verdict::Unknown { certificate: 1 });
+    let told = answer(Profile::Wide, "stranger.der").unwrap();
+    assert_eq!(told.verdict, invalid(Reason::NotPermitted));
+    let refusal = answer(Profile::Wide, "malformed.der").unwrap_err();
+    assert_eq!(refused(refusal), (Some((Text::Certificates, 2)), 18));
 }
 
 #[test]

@@ -4,7 +4,6 @@ use Rattle.std.specs.List.{AllByRecursion}
 use Rattle.std.proofs.lemmas.List.{length-append, length-map, take-append-le, take_more, take_more_set, drop-set, take_min, drop_min, length-set, take-append-drop}
 use Rattle.asn.specs.DerLaws.{AreOctets}
 use Rattle.asn.specs.Part.{IsPartOf}
-use Rattle.asn.proofs.Laws.{bind_ok, ok_is}
 use Rattle.cert.specs.Certificate.{Certificate, certificate}
 use Rattle.cert.specs.declared.fault.CertRule.{CertRule}
 use Rattle.cert.proofs.Laws.{certificate_is_exact}
@@ -12,8 +11,9 @@ use Rattle.statements.specs.Statement.{Statement, statement_under}
 use Rattle.statements_facts.specs.declared.profile.Profile.{Profile}
 use Rattle.statements_facts.specs.declared.profile.Profile.TheVariants.{Stated, Wide}
 use Rattle.path.specs.Query.{Query}
-use Rattle.path_points.specs.InProfile.{certificate_under, certificate_with_points, pointed, with_points}
-use Rattle.relying_questions.specs.Places.{AllInTexts, AreInTexts, Stands, WasReadButForPoints}
+use Rattle.path_profiles.specs.InProfile.{certificate_under}
+use Rattle.path_profiles.proofs.Laws.{stated_too}
+use Rattle.relying_questions.specs.Places.{AllInTexts, AreInTexts, Stands, WasReadInSomeProfile}
 use Rattle.relying_questions.specs.Places.{WereRead, WereStatementsRead, certificate_octets, texts_at, texts_in}
 use Rattle.relying_questions.specs.Questions.{questions_of}
 use Rattle.relying_questions.specs.Seen.{seen_all, seen_question}
@@ -96,40 +96,28 @@ tell_each certificates statements (one ∷ asked) all = (tells certificates stat
 
 -- ---- what was read from texts
 
--- the certificate without its points
-abbrev bare : Certificate → Certificate
-bare c = record c { points = [] }
-
 abbrev IsOfText : List ℕ → Certificate → Type 0
-IsOfText text it = WasReadButForPoints it × (it.octets ≡ text)
+IsOfText text it = WasReadInSomeProfile it × (it.octets ≡ text)
 
--- in the stated profile there are none
-is_of_text : (text : List ℕ) (read it : Certificate) → AreOctets text → certificate text ≡ Ok read → bare it ≡ bare read → IsOfText text it
+-- it is one that was read, but for its constraints and points
+abbrev IsLike : Certificate → Certificate → Type 0
+IsLike read it = it ≡ record read { extensions = it.extensions; points = it.points; hosts = it.hosts }
+
+is_of_text : (text : List ℕ) (read it : Certificate) → AreOctets text → certificate text ≡ Ok read → IsLike read it → IsOfText text it
 is_of_text text read it fits reads same =
-    let is = ((certificate_is_exact text read fits).0 reads).layout.fields_are in
-    let none : read.points ≡ [] = ap (λ (c : Certificate). c.points) is in
-    let whole : bare read ≡ read = ap (λ (points : List (List ℕ)). record read { points = points }) (sym none) in (
-      record { octets = text; are_octets = fits; reads = reads ∙ ap (λ (c : Certificate). Ok c) (sym (same ∙ whole)) },
+    let is = ((certificate_is_exact text read fits).0 reads).layout.fields_are in (
+      record { read = read; was_read = record { octets = text; are_octets = fits; reads = reads }; same = same },
       ap (λ (c : Certificate). c.octets) same ∙ ap (λ (c : Certificate). c.octets) is,
     )
-
--- and in the wide one they alone are added
-wide_read : (text : List ℕ) (it : Certificate) → certificate_with_points text ≡ Ok it
-    → (read : Certificate) × (certificate text ≡ Ok read) × (bare it ≡ bare read)
-unfolding certificate_with_points with_points
-wide_read text it reads =
-    let first = bind_ok (certificate text) (λ read. with_points read) it reads in
-    let second = bind_ok _ (λ points. Ok (pointed first.0 points)) it first.2 in
-    (first.0, first.1, ap bare (sym (ok_is {E = CertRule × ℕ} (pointed first.0 second.0) it second.2)))
 
 read_from : (profile : Profile) (text : List ℕ) (it : Certificate) → AreOctets text → certificate_under profile text ≡ Ok it → IsOfText text it
 read_from Stated text it fits reads = is_of_text text it it fits reads refl
 read_from Wide text it fits reads =
-    let stated = wide_read text it reads in
+    let stated = stated_too text it reads in
     is_of_text text stated.0 it fits stated.1 stated.2
 
 abbrev AreOfTexts : List (List ℕ) → List Certificate → Type 0
-AreOfTexts texts these = AllByRecursion WasReadButForPoints these × (certificate_octets these ≡ texts)
+AreOfTexts texts these = AllByRecursion WasReadInSomeProfile these × (certificate_octets these ≡ texts)
 
 one_more : (text : List ℕ) (it : Certificate) (texts : List (List ℕ)) (these : List Certificate) → IsOfText text it → AreOfTexts texts these
     → AreOfTexts (text ∷ texts) (it ∷ these)

@@ -6,8 +6,8 @@ use Rattle.std.proofs.lemmas.List.{get_or-reverse, length-append, length-map, le
 use Rattle.cert.specs.declared.fault.CertFault.{CertFault}
 use Rattle.cert.specs.declared.fault.CertFault.TheVariants as cert
 use Rattle.cert.specs.declared.certificate.Certificate as of_cert
-use Rattle.path_points.specs.InProfile.{certificate_under}
-use Rattle.path_points.specs.Reading.{IsFirstRefusedUnder, IsPathRefused}
+use Rattle.path_profiles.specs.InProfile.{certificate_under}
+use Rattle.path_profiles.specs.Reading.{IsFirstRefusedUnder, IsPathRefused}
 use Rattle.statements_facts.specs.declared.profile.Profile.{Profile}
 use Rattle.statements_facts.specs.declared.profile.Profile.TheVariants.{Stated}
 use Rattle.capi_values.specs.Refusal.{IsFirstRefused, TellsCertFault, TellsRefusedOf, certificate_refused}

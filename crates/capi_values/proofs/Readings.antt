@@ -7,7 +7,7 @@ use Rattle.cert.specs.Certificate.{Certificate, certificate}
 use Rattle.cert.specs.declared.fault.CertRule.{CertRule}
 use Rattle.cert.specs.declared.fault.CertFault.{CertFault}
 use Rattle.path.specs.Query.{Query}
-use Rattle.path_points.specs.Reading.{AreReadUnder, IsFirstRefusedUnder, IsQueryReadUnder}
+use Rattle.path_profiles.specs.Reading.{AreReadUnder, IsFirstRefusedUnder, IsQueryReadUnder}
 use Rattle.statements_facts.specs.declared.profile.Profile.{Profile}
 use Rattle.capi_values.specs.Texts.{AreCertificates, IsQueryRead, Reading, all_read, octets_of_texts, profile_of, purpose_if_any, query_certificates}
 use Rattle.capi_values.specs.declared.texts.QueryOfTexts.{QueryOfTexts}

@@ -6,8 +6,8 @@ use Rattle.cert.specs.Certificate.{Certificate, seen_certificate}
 use Rattle.cert.specs.declared.certificate.Certificate as of_cert
 use Rattle.cert.specs.declared.fault.CertRule.{CertRule}
 use Rattle.path.specs.Query.{Query}
-use Rattle.path_points.specs.InProfile.{certificate_under}
-use Rattle.path_points.specs.Reading.{IsQueryReadUnder}
+use Rattle.path_profiles.specs.InProfile.{certificate_under}
+use Rattle.path_profiles.specs.Reading.{IsQueryReadUnder}
 use Rattle.statements.specs.Statement.{Statement}
 use Rattle.statements_facts.specs.declared.profile.Profile.{Profile}
 use Rattle.statements_facts.specs.declared.profile.Profile.TheVariants.{Stated, Wide}

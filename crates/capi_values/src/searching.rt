@@ -15,7 +15,7 @@ use crate::refusal::Refusal;
 use crate::texts::{Text, profile_of, purpose_of};
 use cert::Certificate;
 use path::QueryFault;
-use path_points::read_certificate_under;
+use path_profiles::read_certificate_under;
 use path_search::{Budget, Search};
 use relying_search::FindingBudget;
 use statements::Statement;

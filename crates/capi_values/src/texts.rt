@@ -8,7 +8,7 @@ ghost use Rattle.asn.specs.DerLaws.{AreOctets};
 ghost use Rattle.capi_values.specs.Texts.{AreAllOctets, IsQueryRead, certificate_texts, octets_of_texts, profile_of, purpose_if_any, query_certificates};
 
 use crate::refusal::Refusal;
-use path_points::read_query_under;
+use path_profiles::read_query_under;
 use statements_facts::Profile;
 use std::alloc::{AllocError, Global};
 

@@ -44,7 +44,7 @@ unfolding has_room
 room_within text most count at low = check_within text (nat_lt count most) R.Limit at low
 
 -- the value that the contents of an OCTET STRING are
-nested_within : (text : List ℕ) (value : Place) → AreOctets text → IsEncodedPart text value → Within text (IsEncodedPart text) (as_der (nested value))
+pub nested_within : (text : List ℕ) (value : Place) → AreOctets text → IsEncodedPart text value → Within text (IsEncodedPart text) (as_der (nested value))
 unfolding nested body_place Rattle.asn.specs.Part.contents
 nested_within text value octets is = der_within text (IsEncodedPart text) (nested value) (by (first_fault_in (body_place value).octets) refl)
   where
@@ -176,10 +176,10 @@ saying_within text Kind.NoCheck value octets is = tt
 saying_within text Kind.Other value octets is = tt
 
 -- extensions
-record ValueStands (text : List ℕ) (read : Extension) : Type 0 where
+pub record ValueStands (text : List ℕ) (read : Extension) : Type 0 where
   pub value : IsEncodedPart text read.value
 
-extension_within : (text : List ℕ) (value : Place) → IsEncodedPart text value → Within text (ValueStands text) (extension R.Layout value)
+pub extension_within : (text : List ℕ) (value : Place) → IsEncodedPart text value → Within text (ValueStands text) (extension R.Layout value)
 unfolding extension
 extension_within text value is =
     and_then text (λ _. tag value ≡ 0x30) (ValueStands text) (is_a 0x30 R.Layout value) _ (is_a_within text 0x30 R.Layout value is) (λ _ sequence.

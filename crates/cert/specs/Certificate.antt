@@ -24,6 +24,7 @@ use Rattle.cert.specs.SubjectPublicKeyInfo.{SubjectPublicKeyInfo, seen_key_info}
 use Rattle.cert.specs.BitString.{BitString, bit_string_at, seen_bit_string, has_no_unused_bits}
 use Rattle.cert.specs.Version.{is_v3}
 use Rattle.cert.specs.Extensions.{Extensions, no_extensions, extensions, seen_extensions}
+use Rattle.cert.specs.CertificateHosts.{CertificateHosts, no_hosts, seen_hosts}
 use Rattle.cert.specs.TbsCertificate.{TbsHead, Subject, component, tbs_head, tbs_subject, seen_tbs_head, seen_subject}
 
 -- extensions [3] EXPLICIT Extensions OPTIONAL (4.1.2.9): in v3 alone
@@ -84,7 +85,8 @@ abbrev pub next_signature : Members → Result (BitString × Members) (CertRule 
 next_signature left = component 0x03 signature_value left
 
 -- The fields of a certificate. What is a part of its octets is told with its place. The points are names under which lists about it are
--- published (4.2.1.13), each a general name as its octets, where they count; reading leaves them out.
+-- published (4.2.1.13), each a general name as its octets, where they count, and so is what it says of mail addresses and hosts; reading
+-- leaves both out.
 pub record Certificate : Type 0 where
   pub octets : List ℕ
   pub tbs : Place
@@ -98,6 +100,7 @@ pub record Certificate : Type 0 where
   pub extensions : Extensions
   pub signature : BitString
   pub points : List (List ℕ)
+  pub hosts : CertificateHosts
 
 abbrev pub seen_certificate : code.Certificate → Certificate
 seen_certificate read = record {
@@ -113,6 +116,7 @@ seen_certificate read = record {
   extensions = seen_extensions read.extensions;
   signature = seen_bit_string read.signature;
   points = map (λ name. name.now) read.points.items;
+  hosts = seen_hosts read.hosts;
 }
 
 abbrev pub certificate_with : List ℕ → Place → TbsCertificate → BitString → Certificate
@@ -129,6 +133,7 @@ certificate_with octets signed tbs signature = record {
   extensions = tbs.extensions;
   signature = signature;
   points = [];
+  hosts = no_hosts;
 }
 
 -- The checks in their order.

@@ -14,6 +14,7 @@ pub mod Version
 pub mod SubjectPublicKeyInfo
 pub mod OidSet
 pub mod TbsCertificate
+pub mod CertificateHosts
 pub mod Certificate
 pub mod ExtensionForms
 pub mod CertificateForms
@@ -28,6 +29,8 @@ pub use Rattle.asn.specs.Value
 pub use Rattle.asn.specs.Encoding
 pub use Rattle.asn.specs.Outermost
 pub use Rattle.names.specs.Ip
+pub use Rattle.names_hosts.specs.Hosts
+pub use Rattle.names_hosts.specs.Mail
 pub use Rattle.asn.specs.Integer
 pub use Rattle.names.specs.GeneralLayout
 pub use Rattle.names.specs.GeneralView

@@ -11,6 +11,7 @@ use crate::algorithm::AlgorithmIdentifier;
 use crate::bit_string::{BitString, is_of_whole_octets};
 use crate::extensions::Extensions;
 use crate::fault::{CertFault, CertRefusal, CertRule};
+use crate::hosts::CertificateHosts;
 use crate::key_info::SubjectPublicKeyInfo;
 use crate::tbs::{Subject, TbsHead};
 use crate::validity::Validity;
@@ -43,6 +44,9 @@ pub struct Certificate<'a> {
     /// The names under which lists about it are published, each a general name as its octets (4.2.1.13). Reading leaves them out: they
     /// count in the wide profile alone.
     pub points: Vec<&'a [u8]>,
+    /// What it says of mail addresses and of the hosts of URIs, if constraints on these are processed (4.2.1.10). Reading leaves it empty:
+    /// it counts in the wide profile alone.
+    pub hosts: CertificateHosts<'a>,
 }
 
 /// extensions [3] EXPLICIT Extensions OPTIONAL, in v3 alone
@@ -183,6 +187,7 @@ impl<'a> Certificate<'a> {
             extensions: tbs.extensions,
             signature,
             points: Vec::new(alloc),
+            hosts: CertificateHosts::none(alloc),
         })
     }
 

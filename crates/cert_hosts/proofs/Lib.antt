@@ -2,3 +2,5 @@ mod Told
 mod OneAnswer
 mod WalkedHosts
 pub mod Laws
+mod OtherConstraints
+mod FaultPlaces

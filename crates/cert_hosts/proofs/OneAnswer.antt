@@ -8,7 +8,7 @@ use Rattle.cert.specs.declared.fault.CertRule.{CertRule}
 use Rattle.names_hosts.specs.Mail.{MailText, MailNames}
 use Rattle.names_hosts.specs.Hosts.{HostNames}
 use Rattle.names_hosts.proofs.Laws.{mail_name_is_one, mail_base_is_one, host_base_is_one, uri_host_is_one}
-use Rattle.cert_hosts.specs.CertificateHosts.{CertificateHosts}
+use Rattle.cert.specs.CertificateHosts.{CertificateHosts}
 use Rattle.cert_hosts.specs.SaidValues.{Said, mail_name, email_value, uri_name, mail_base, host_base, said_values}
 use Rattle.cert_hosts.specs.Reading.{is_mail, is_uri, is_mail_base, is_host_base, IsMailAt, IsUriAt, IsMailBaseAt, IsHostBaseAt, AreSaid, IsMalformed, IsFirstMalformed}
 use Rattle.cert_hosts.specs.Laws.{HostsHaveOneAnswer, SaidIsNotRefused, RefusalIsOne}

@@ -13,7 +13,8 @@ use Rattle.names_hosts.specs.Hosts.{HostNames}
 use Rattle.names_hosts.specs.Mail.{MailText, MailNames}
 use Rattle.names_hosts.specs.Uri.{IsHostOfUri}
 use Rattle.cert_hosts.specs.declared.said.Said as code
-use Rattle.cert_hosts.specs.CertificateHosts.{CertificateHosts, no_hosts, with_mail, with_uri, with_mail_base, with_host_base}
+use Rattle.cert.specs.CertificateHosts.{CertificateHosts, no_hosts}
+use Rattle.cert_hosts.specs.CertificateHosts.{with_mail, with_uri, with_mail_base, with_host_base}
 use Rattle.cert_hosts.specs.SaidValues.{Said, seen_said, mail_name, email_value, uri_name, mail_base, host_base}
 use Rattle.cert_hosts.specs.Reading.{is_mail, is_uri, is_mail_base, is_host_base, IsMailAt, IsUriAt, IsMailBaseAt, IsHostBaseAt, AreSaid, TellsWith, IsMalformedFor, IsFirstFor}
 

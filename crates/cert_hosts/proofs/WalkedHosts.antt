@@ -16,8 +16,9 @@ use Rattle.names_hosts.specs.Hosts.{HostNames, host_base_of}
 use Rattle.names_hosts.specs.Mail.{MailText, MailNames, mail_of, mail_base_of}
 use Rattle.names_hosts.specs.Uri.{uri_host}
 use Rattle.names_hosts.proofs.Laws.{mail_name_is_exact, mail_base_is_exact, host_base_is_exact, uri_host_is_exact}
-use Rattle.cert_hosts.specs.declared.certificate_hosts.CertificateHosts as code
-use Rattle.cert_hosts.specs.CertificateHosts.{CertificateHosts, seen_hosts, no_hosts, with_mail, with_uri, with_mail_base, with_host_base}
+use Rattle.cert.specs.declared.hosts.CertificateHosts as code
+use Rattle.cert.specs.CertificateHosts.{CertificateHosts, seen_hosts, no_hosts}
+use Rattle.cert_hosts.specs.CertificateHosts.{with_mail, with_uri, with_mail_base, with_host_base}
 use Rattle.cert_hosts.specs.SaidValues.{Said, mail_name, email_value, uri_name, mail_base, host_base, said_values}
 use Rattle.cert_hosts.specs.Reading.{IsUriAt, AreSaid, TellsWith, IsMalformed, IsFirstMalformed, IsFirstFor, SaysHosts, IsRefusedAt}
 use Rattle.cert_hosts.specs.HostsWalk.{with_value, with_values, certificate_hosts}

@@ -10,7 +10,8 @@ use Rattle.cert.specs.declared.fault.CertRule.TheVariants.{Name}
 use Rattle.names_hosts.specs.Hosts.{host_base_of}
 use Rattle.names_hosts.specs.Mail.{mail_of, mail_base_of}
 use Rattle.names_hosts.specs.Uri.{uri_host}
-use Rattle.cert_hosts.specs.CertificateHosts.{CertificateHosts, no_hosts, with_mail, with_uri, with_mail_base, with_host_base}
+use Rattle.cert.specs.CertificateHosts.{CertificateHosts, no_hosts}
+use Rattle.cert_hosts.specs.CertificateHosts.{with_mail, with_uri, with_mail_base, with_host_base}
 use Rattle.cert_hosts.specs.SaidValues.{Said, mail_name, email_value, uri_name, mail_base, host_base, said_values}
 
 -- What the values before one say, and this one; or the rule that it breaks, and where it stands. A URI breaks none: if it has no host that is

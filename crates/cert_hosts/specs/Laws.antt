@@ -2,7 +2,7 @@
 use Rattle.std.specs.Prelude.{◌≡◌, ◌↔◌, ℕ, Ok, Err}
 use Rattle.asn.specs.Place.{Place}
 use Rattle.cert.specs.declared.fault.CertRule.{CertRule}
-use Rattle.cert_hosts.specs.CertificateHosts.{CertificateHosts}
+use Rattle.cert.specs.CertificateHosts.{CertificateHosts}
 use Rattle.cert_hosts.specs.Reading.{SaysHosts, IsRefusedAt}
 use Rattle.cert_hosts.specs.HostsWalk.{certificate_hosts}
 

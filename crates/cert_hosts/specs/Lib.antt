@@ -2,6 +2,7 @@ pub mod CertificateHosts
 pub mod SaidValues
 pub mod Reading
 pub mod HostsWalk
+pub mod Taken
 pub mod Laws
 pub use Rattle.asn.specs.Place
 pub use Rattle.cert.specs.Certificate

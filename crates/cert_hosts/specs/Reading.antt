@@ -11,7 +11,7 @@ use Rattle.cert.specs.declared.fault.CertRule.TheVariants.{Name}
 use Rattle.names_hosts.specs.Hosts.{HostNames, AreHostsOf}
 use Rattle.names_hosts.specs.Mail.{MailText, IsMailName, MailNames, IsMailOf}
 use Rattle.names_hosts.specs.Uri.{IsHostOfUri}
-use Rattle.cert_hosts.specs.CertificateHosts.{CertificateHosts}
+use Rattle.cert.specs.CertificateHosts.{CertificateHosts}
 use Rattle.cert_hosts.specs.SaidValues.{Said, mail_name, email_value, uri_name, mail_base, host_base, said_values}
 
 -- which values are mail addresses, URIs, and bases

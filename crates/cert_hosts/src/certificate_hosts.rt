@@ -7,7 +7,8 @@ ghost use Rattle.cert.specs.Certificate.{seen_certificate};
 ghost use Rattle.cert.specs.Fault.{GivesUnlessFull};
 ghost use Rattle.names_hosts.specs.Hosts.{host_names};
 ghost use Rattle.names_hosts.specs.Mail.{mail_text, mail_names};
-ghost use Rattle.cert_hosts.specs.CertificateHosts.{seen_hosts, no_hosts, with_mail, with_uri, with_mail_base, with_host_base};
+ghost use Rattle.cert.specs.CertificateHosts.{seen_hosts};
+ghost use Rattle.cert_hosts.specs.CertificateHosts.{with_mail, with_uri, with_mail_base, with_host_base};
 ghost use Rattle.cert_hosts.specs.SaidValues.{seen_said, mail_name, email_value, uri_name, mail_base, host_base};
 ghost use Rattle.cert_hosts.specs.Reading.{IsMailAt, IsUriAt, IsMailBaseAt, IsHostBaseAt, IsMalformed, AreSaid, Tells, IsFirstFor, SaysHosts, IsRefusedFor};
 ghost use Rattle.cert_hosts.specs.HostsWalk.{certificate_hosts};
@@ -15,27 +16,10 @@ ghost use Rattle.cert_hosts.specs.HostsWalk.{certificate_hosts};
 use crate::said::Said;
 use crate::values::said_values;
 use asn::Tlv;
-use cert::{CertFault, CertRefusal, CertRule, Certificate};
+use cert::{CertFault, CertRefusal, CertRule, Certificate, CertificateHosts};
 use names::{NameRule, is_text};
 use names_hosts::{HostBase, MailBase, MailName, host_of_uri};
 use std::alloc::{AllocError, Global};
-
-/// What a certificate says of mail addresses and of the hosts of URIs.
-#[derive(Drop)]
-pub struct CertificateHosts<'a> {
-    /// Its mail addresses: the emailAddresses of its subject, and then the rfc822Names of subjectAltName, in order.
-    pub mail: Vec<MailName<'a>>,
-    /// Of each uniformResourceIdentifier of subjectAltName, in order, the host; `None` if it has none that is a DNS name.
-    pub hosts: Vec<Option<&'a [u8]>>,
-    /// The bases of permitted subtrees of mail addresses, in order.
-    pub permitted_mail: Vec<MailBase<'a>>,
-    /// Those of excluded ones.
-    pub excluded_mail: Vec<MailBase<'a>>,
-    /// The bases of permitted subtrees of URIs, in order.
-    pub permitted_hosts: Vec<HostBase<'a>>,
-    /// Those of excluded ones.
-    pub excluded_hosts: Vec<HostBase<'a>>,
-}
 
 /// The mail address that the rfc822Name is; else the fault, at it.
 fn mail_name_of(value: Tlv<'_>) -> Result<MailName<'_>, CertRefusal>
@@ -99,149 +83,149 @@ fn uri_host_of(value: Tlv<'_>) -> Option<&[u8]>
     host_of_uri(value.body)
 }
 
-impl<'a> CertificateHosts<'a> {
-    /// What a certificate says that has no such values.
-    fn none(alloc: Global) -> CertificateHosts<'a>
-        ensures { seen_hosts result ≡ no_hosts }
-    {
-        CertificateHosts {
-            mail: Vec::new(alloc),
-            hosts: Vec::new(alloc),
-            permitted_mail: Vec::new(alloc),
-            excluded_mail: Vec::new(alloc),
-            permitted_hosts: Vec::new(alloc),
-            excluded_hosts: Vec::new(alloc),
+fn push_mail<'a>(hosts: &mut CertificateHosts<'a>, name: MailName<'a>) -> Result<(), AllocError>
+    ensures { OnOk result (seen_hosts hosts.new
+        ≡ with_mail (mail_text name.entry) (seen_hosts hosts.old)) }
+{
+    hosts.mail.push(name)?;
+    Ok(())
+}
+
+fn push_uri<'a>(hosts: &mut CertificateHosts<'a>, host: Option<&'a [u8]>) -> Result<(), AllocError>
+    ensures { OnOk result (seen_hosts hosts.new
+        ≡ with_uri (option_copied host.entry) (seen_hosts hosts.old)) }
+{
+    hosts.hosts.push(host)?;
+    Ok(())
+}
+
+fn push_mail_base<'a>(
+    hosts: &mut CertificateHosts<'a>,
+    permitted: bool,
+    base: MailBase<'a>,
+) -> Result<(), AllocError>
+    ensures { OnOk result (seen_hosts hosts.new
+        ≡ with_mail_base permitted (mail_names base.entry) (seen_hosts hosts.old)) }
+{
+    if permitted {
+        hosts.permitted_mail.push(base)?;
+    } else {
+        hosts.excluded_mail.push(base)?;
+    }
+    Ok(())
+}
+
+fn push_host_base<'a>(
+    hosts: &mut CertificateHosts<'a>,
+    permitted: bool,
+    base: HostBase<'a>,
+) -> Result<(), AllocError>
+    ensures { OnOk result (seen_hosts hosts.new
+        ≡ with_host_base permitted (host_names base.entry) (seen_hosts hosts.old)) }
+{
+    if permitted {
+        hosts.permitted_hosts.push(base)?;
+    } else {
+        hosts.excluded_hosts.push(base)?;
+    }
+    Ok(())
+}
+
+fn take_mail_name<'a>(hosts: &mut CertificateHosts<'a>, value: Tlv<'a>) -> Result<(), CertFault>
+    ensures { Tells (mail_name (seen_tlv value.entry)) (seen_hosts hosts.old)
+        (seen_hosts hosts.new) result }
+{
+    let name = mail_name_of(value)?;
+    push_mail(hosts, name)?;
+    Ok(())
+}
+
+fn take_email<'a>(hosts: &mut CertificateHosts<'a>, value: Tlv<'a>) -> Result<(), CertFault>
+    ensures { Tells (email_value (seen_tlv value.entry)) (seen_hosts hosts.old)
+        (seen_hosts hosts.new) result }
+{
+    let name = email_of(value)?;
+    push_mail(hosts, name)?;
+    Ok(())
+}
+
+fn take_uri<'a>(hosts: &mut CertificateHosts<'a>, value: Tlv<'a>) -> Result<(), CertFault>
+    ensures { Tells (uri_name (seen_tlv value.entry)) (seen_hosts hosts.old)
+        (seen_hosts hosts.new) result }
+{
+    push_uri(hosts, uri_host_of(value))?;
+    Ok(())
+}
+
+fn take_mail_base<'a>(
+    hosts: &mut CertificateHosts<'a>,
+    permitted: bool,
+    value: Tlv<'a>,
+) -> Result<(), CertFault>
+    ensures { Tells (mail_base permitted (seen_tlv value.entry)) (seen_hosts hosts.old)
+        (seen_hosts hosts.new) result }
+{
+    let base = mail_base_of(permitted, value)?;
+    push_mail_base(hosts, permitted, base)?;
+    Ok(())
+}
+
+fn take_host_base<'a>(
+    hosts: &mut CertificateHosts<'a>,
+    permitted: bool,
+    value: Tlv<'a>,
+) -> Result<(), CertFault>
+    ensures { Tells (host_base permitted (seen_tlv value.entry)) (seen_hosts hosts.old)
+        (seen_hosts hosts.new) result }
+{
+    let base = host_base_of(permitted, value)?;
+    push_host_base(hosts, permitted, base)?;
+    Ok(())
+}
+
+/// Takes one more value; else its fault.
+fn take<'a>(hosts: &mut CertificateHosts<'a>, said: Said<'a>) -> Result<(), CertFault>
+    ensures { Tells (seen_said said.entry) (seen_hosts hosts.old) (seen_hosts hosts.new) result }
+{
+    match said {
+        Said::MailName(value) => take_mail_name(hosts, value),
+        Said::EmailValue(value) => take_email(hosts, value),
+        Said::UriName(value) => take_uri(hosts, value),
+        Said::MailBase(permitted, value) => take_mail_base(hosts, permitted, value),
+        Said::HostBase(permitted, value) => take_host_base(hosts, permitted, value),
+    }
+}
+
+/// What the values say; else the fault of the first that is malformed.
+fn of_values<'a>(alloc: Global, values: &[Said<'a>]) -> Result<CertificateHosts<'a>, CertFault>
+    ensures reads { IfOk result (λ told. AreSaid (map seen_said values.now) (seen_hosts told)) }
+    ensures refused { IfErr result (λ fault. IsFirstFor (map seen_said values.now) fault) }
+{
+    let mut told = CertificateHosts::none(alloc);
+    for said in values {
+        match take(&mut told, *said) {
+            Ok(()) => {}
+            Err(fault) => return Err(fault),
         }
     }
+    Ok(told)
+}
 
-    fn push_mail(&mut self, name: MailName<'a>) -> Result<(), AllocError>
-        ensures { OnOk result (seen_hosts self.new
-            ≡ with_mail (mail_text name.entry) (seen_hosts self.old)) }
-    {
-        self.mail.push(name)?;
-        Ok(())
-    }
-
-    fn push_uri(&mut self, host: Option<&'a [u8]>) -> Result<(), AllocError>
-        ensures { OnOk result (seen_hosts self.new
-            ≡ with_uri (option_copied host.entry) (seen_hosts self.old)) }
-    {
-        self.hosts.push(host)?;
-        Ok(())
-    }
-
-    fn push_mail_base(&mut self, permitted: bool, base: MailBase<'a>) -> Result<(), AllocError>
-        ensures { OnOk result (seen_hosts self.new
-            ≡ with_mail_base permitted (mail_names base.entry) (seen_hosts self.old)) }
-    {
-        if permitted {
-            self.permitted_mail.push(base)?;
-        } else {
-            self.excluded_mail.push(base)?;
-        }
-        Ok(())
-    }
-
-    fn push_host_base(&mut self, permitted: bool, base: HostBase<'a>) -> Result<(), AllocError>
-        ensures { OnOk result (seen_hosts self.new
-            ≡ with_host_base permitted (host_names base.entry) (seen_hosts self.old)) }
-    {
-        if permitted {
-            self.permitted_hosts.push(base)?;
-        } else {
-            self.excluded_hosts.push(base)?;
-        }
-        Ok(())
-    }
-
-    fn take_mail_name(&mut self, value: Tlv<'a>) -> Result<(), CertFault>
-        ensures { Tells (mail_name (seen_tlv value.entry)) (seen_hosts self.old)
-            (seen_hosts self.new) result }
-    {
-        let name = mail_name_of(value)?;
-        self.push_mail(name)?;
-        Ok(())
-    }
-
-    fn take_email(&mut self, value: Tlv<'a>) -> Result<(), CertFault>
-        ensures { Tells (email_value (seen_tlv value.entry)) (seen_hosts self.old)
-            (seen_hosts self.new) result }
-    {
-        let name = email_of(value)?;
-        self.push_mail(name)?;
-        Ok(())
-    }
-
-    fn take_uri(&mut self, value: Tlv<'a>) -> Result<(), CertFault>
-        ensures { Tells (uri_name (seen_tlv value.entry)) (seen_hosts self.old)
-            (seen_hosts self.new) result }
-    {
-        self.push_uri(uri_host_of(value))?;
-        Ok(())
-    }
-
-    fn take_mail_base(&mut self, permitted: bool, value: Tlv<'a>) -> Result<(), CertFault>
-        ensures { Tells (mail_base permitted (seen_tlv value.entry)) (seen_hosts self.old)
-            (seen_hosts self.new) result }
-    {
-        let base = mail_base_of(permitted, value)?;
-        self.push_mail_base(permitted, base)?;
-        Ok(())
-    }
-
-    fn take_host_base(&mut self, permitted: bool, value: Tlv<'a>) -> Result<(), CertFault>
-        ensures { Tells (host_base permitted (seen_tlv value.entry)) (seen_hosts self.old)
-            (seen_hosts self.new) result }
-    {
-        let base = host_base_of(permitted, value)?;
-        self.push_host_base(permitted, base)?;
-        Ok(())
-    }
-
-    /// Takes one more value; else its fault.
-    fn take(&mut self, said: Said<'a>) -> Result<(), CertFault>
-        ensures { Tells (seen_said said.entry) (seen_hosts self.old) (seen_hosts self.new) result }
-    {
-        match said {
-            Said::MailName(value) => self.take_mail_name(value),
-            Said::EmailValue(value) => self.take_email(value),
-            Said::UriName(value) => self.take_uri(value),
-            Said::MailBase(permitted, value) => self.take_mail_base(permitted, value),
-            Said::HostBase(permitted, value) => self.take_host_base(permitted, value),
-        }
-    }
-
-    /// What the values say; else the fault of the first that is malformed.
-    fn of_values(alloc: Global, values: &[Said<'a>]) -> Result<CertificateHosts<'a>, CertFault>
-        ensures reads { IfOk result (λ told. AreSaid (map seen_said values.now) (seen_hosts told)) }
-        ensures refused { IfErr result (λ fault. IsFirstFor (map seen_said values.now) fault) }
-    {
-        let mut told = CertificateHosts::none(alloc);
-        for said in values {
-            match told.take(*said) {
-                Ok(()) => {}
-                Err(fault) => return Err(fault),
-            }
-        }
-        Ok(told)
-    }
-
-    /// Reads the mail addresses and hosts of a certificate that was read, and the bases of its constraints on them. The first value that is
-    /// malformed is refused, in the order in which they stand in the certificate: `Name(MailForm)` for an emailAddress, an rfc822Name or a
-    /// base of a constraint on these, `Name(UriForm)` for a base of a constraint on URIs, with its offset in the text handed to
-    /// `asn::whole`. An emailAddress that is no IA5String, UTF8String or PrintableString is malformed. A URI is never refused. Time is
-    /// linear in the octets.
-    pub fn read(
-        alloc: Global,
-        certificate: &Certificate<'a>,
-    ) -> Result<CertificateHosts<'a>, CertFault>
-        ensures reads { IfOk result (λ read.
-            SaysHosts (seen_certificate certificate.now).tbs (seen_hosts read)) }
-        ensures refused { IfErr result (IsRefusedFor (seen_certificate certificate.now).tbs) }
-        ensures gives { GivesUnlessFull seen_hosts result
-            (certificate_hosts (seen_certificate certificate.now).tbs) }
-    {
-        let values = said_values(alloc, certificate.tbs)?;
-        CertificateHosts::of_values(alloc, &values)
-    }
+/// Reads the mail addresses and hosts of a certificate that was read, and the bases of its constraints on them. The first value that is
+/// malformed is refused, in the order in which they stand in the certificate: `Name(MailForm)` for an emailAddress, an rfc822Name or a
+/// base of a constraint on these, `Name(UriForm)` for a base of a constraint on URIs, with its offset in the text handed to
+/// `asn::whole`. An emailAddress that is no IA5String, UTF8String or PrintableString is malformed. A URI is never refused. Time is
+/// linear in the octets.
+pub fn read_hosts<'a>(
+    alloc: Global,
+    certificate: &Certificate<'a>,
+) -> Result<CertificateHosts<'a>, CertFault>
+    ensures reads { IfOk result (λ read.
+        SaysHosts (seen_certificate certificate.now).tbs (seen_hosts read)) }
+    ensures refused { IfErr result (IsRefusedFor (seen_certificate certificate.now).tbs) }
+    ensures gives { GivesUnlessFull seen_hosts result
+        (certificate_hosts (seen_certificate certificate.now).tbs) }
+{
+    let values = said_values(alloc, certificate.tbs)?;
+    of_values(alloc, &values)
 }

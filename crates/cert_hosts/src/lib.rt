@@ -8,7 +8,9 @@ mod contained;
 mod one_answer;
 mod said;
 mod subject;
+mod taken;
 mod values;
 
-pub use certificate_hosts::CertificateHosts;
+pub use certificate_hosts::read_hosts;
 pub use one_answer::certificate_hosts_laws;
+pub use taken::take_hosts;

@@ -63,7 +63,7 @@ rank 4 Expired: The moment is after the certificate's notAfter. The certificate 
 rank 5 Issuer: The certificate names another issuer than the one before it in the path. Put the path in order: the certificate that the anchor issued comes first. (RFC 5280, 6.1.3 (a) (4))
 rank 6 NotPermitted: A name of the certificate lies outside what an authority above it is permitted. The authority may not issue for that name. (RFC 5280, 6.1.3 (b))
 rank 7 Excluded: A name of the certificate lies in what an authority above it excludes. The authority may not issue for that name. (RFC 5280, 6.1.3 (c))
-rank 8 ConstraintForm: An authority above constrains names of a form that is not processed, and the certificate has such a name. Directory names, DNS names and IP addresses are processed. (RFC 5280, 6.1.4 (g))
+rank 8 ConstraintForm: An authority above constrains names of a form that is not processed, and the certificate has such a name. Directory names, DNS names and IP addresses are processed. Constraints on mail addresses and on the hosts of URIs are served by '--profile wide' in front of the command, with a store made so; there a URI without a host name is refused with this rank. (RFC 5280, 4.2.1.10)
 rank 9 NotCa: A certificate that is used as an authority's is none: it is not of version 3, or has no cA. Put the path in order, or leave the certificate out. (RFC 5280, 6.1.4 (k))
 rank 10 PathLength: More authorities follow than the path length of one above allows. The authority may not have that many below it. (RFC 5280, 6.1.4 (l) and (m))
 rank 11 KeyCertSign: An authority's key may not sign certificates: its keyUsage lacks keyCertSign. Ask the authority for a new certificate. (RFC 5280, 6.1.4 (n))

@@ -1,7 +1,7 @@
 //! What the program reads.
 ghost use Rattle.std.specs.Prelude.{◌≡◌, Ok, IfErr, IfOk};
 ghost use Rattle.cert.specs.Certificate.{certificate, seen_certificate};
-ghost use Rattle.path_points.specs.InProfile.{certificate_under};
+ghost use Rattle.path_profiles.specs.InProfile.{certificate_under};
 ghost use Rattle.statements_crl.specs.CertificateList.{certificate_list_under, seen_list};
 ghost use Rattle.statements_ocsp.specs.OcspResponse.{ocsp_response, seen_response};
 ghost use Rattle.statements.specs.Statement.{genuine_statement_under};
@@ -68,7 +68,7 @@ impl<R: Files + AllocGlobal> Source for R {
     }
 }
 
-/// The certificate that the octets of the file are, in the profile: in the wide one with its points.
+/// The certificate that the octets of the file are, in the profile: in the wide one with its points, mail addresses and hosts.
 pub fn read_certificate_under<'a, 'o>(
     alloc: Global,
     profile: Profile,
@@ -80,14 +80,14 @@ pub fn read_certificate_under<'a, 'o>(
     ensures fails { IfErr result
         (IsNoCertificateUnder profile (IsJust profile octets.now) file.entry.now) }
 {
-    match path_points::read_certificate_under(alloc, profile, octets) {
+    match path_profiles::read_certificate_under(alloc, profile, octets) {
         Ok(read) => Ok(read),
         Err(CertFault::Refused(rule, at)) => Err(Failure::NoCertificate { file, rule, at }),
         Err(CertFault::Memory) => Err(Failure::NoMemory),
     }
 }
 
-/// The same of a certificate whose points do not count: an anchor, an issuer, or one that is shown.
+/// The same of a certificate in which these do not count: an anchor, an issuer, or one that is shown.
 pub fn read_certificate<'a, 'o>(
     alloc: Global,
     file: &'a str,

@@ -5,7 +5,7 @@ use Rattle.std.proofs.lemmas.List.{append-nil, get_or_default, length-append, ma
 use Rattle.std.proofs.lemmas.Grind.{flat_map-append}
 use Rattle.cert.specs.Certificate.{Certificate}
 use Rattle.cert.specs.declared.fault.CertRule.{CertRule}
-use Rattle.path_points.specs.InProfile.{certificate_under}
+use Rattle.path_profiles.specs.InProfile.{certificate_under}
 use Rattle.statements_facts.specs.declared.profile.Profile.{Profile}
 use Rattle.der.specs.declared.fault.Fault.{Fault}
 use Rattle.der.specs.declared.fault.Fault.TheVariants.{Refused as Breaks, Memory}

@@ -2,7 +2,7 @@
 use Rattle.std.proofs.Common.{◌≡◌, ◌<◌, ◌+◌, ℕ, suc, Bor, List, [], ◌∷◌, ◌++◌, Option, Some, None, length, map, take, drop, get_or, refl, sym, ap, ◌∙◌, subst, inl, inr, append_assoc, append-nil, drop-cons}
 use Rattle.std.proofs.lemmas.List.{take-append-drop, take_more}
 use Rattle.cert.specs.Certificate.{Certificate}
-use Rattle.path_points.specs.InProfile.{certificate_under}
+use Rattle.path_profiles.specs.InProfile.{certificate_under}
 use Rattle.statements_facts.specs.declared.profile.Profile.{Profile}
 use Rattle.cli_failures.specs.Failures.{Holding, IsJust, IsNoCertificateUnder, IsUnread}
 use Rattle.cli_failures.specs.declared.failure.Failure.{Failure}

@@ -6,7 +6,7 @@ use Rattle.path_issuers.specs.Search.{Candidate, IsCandidate, Search}
 use Rattle.cli_answers.specs.SearchText.{Place}
 use Rattle.cli_words.specs.QueryTexts.{QueryTexts}
 use Rattle.cli_words.specs.SearchTexts.{SearchTexts}
-use Rattle.path_points.specs.InProfile.{certificate_under}
+use Rattle.path_profiles.specs.InProfile.{certificate_under}
 use Rattle.statements_facts.specs.declared.profile.Profile.{Profile}
 use Rattle.statements_facts.specs.declared.profile.Profile.TheVariants.{Stated}
 use Rattle.cli_failures.specs.Failures.{Holding, IsJust, IsNoCertificate, IsNoCertificateUnder}

@@ -6,7 +6,7 @@ use Rattle.std.proofs.lemmas.List.{length-append, length-map}
 use Rattle.std.proofs.lemmas.List.Sums.{sum_by-cons}
 use Rattle.cert.specs.Certificate.{Certificate}
 use Rattle.cert.specs.declared.fault.CertRule.{CertRule}
-use Rattle.path_points.specs.InProfile.{certificate_under}
+use Rattle.path_profiles.specs.InProfile.{certificate_under}
 use Rattle.statements_facts.specs.declared.profile.Profile.{Profile}
 use Rattle.cli_answers.specs.SearchText.{Place}
 use Rattle.cli_failures.specs.Failures.{Holding}

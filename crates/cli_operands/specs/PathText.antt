@@ -2,7 +2,7 @@
 use Rattle.std.specs.Prelude.{◌≡◌, ◌≢◌, ◌⊎◌, ◌<◌, ◌≤◌, ◌+◌, ℕ, List, [], ◌∷◌, ◌++◌, length, map, Some, Ok, Err}
 use Rattle.cert.specs.Certificate.{Certificate}
 use Rattle.cert.specs.declared.fault.CertRule.{CertRule}
-use Rattle.path_points.specs.InProfile.{certificate_under}
+use Rattle.path_profiles.specs.InProfile.{certificate_under}
 use Rattle.statements_facts.specs.declared.profile.Profile.{Profile}
 use Rattle.der.specs.FirstFault.{FirstFaultIn}
 use Rattle.der.specs.declared.fault.Fault.{Fault}

@@ -1,7 +1,7 @@
 -- What a search is asked for by the words of a command line, and what is wrong with the certificates that they name.
 use Rattle.std.specs.Prelude.{◌≡◌, ◌≤◌, ◌+◌, ℕ, List, ◌∷◌, ◌++◌, Some, None, Ok, length, map}
 use Rattle.cert.specs.Certificate.{Certificate, seen_certificate}
-use Rattle.path_points.specs.InProfile.{certificate_under}
+use Rattle.path_profiles.specs.InProfile.{certificate_under}
 use Rattle.statements_facts.specs.declared.profile.Profile.{Profile}
 use Rattle.statements_facts.specs.declared.profile.Profile.TheVariants.{Stated}
 use Rattle.path_issuers.specs.Search.{Candidate, Search}

@@ -1,14 +1,14 @@
 //! The certificates that the values of a file are.
 ghost use Rattle.std.specs.Prelude.{◌≡◌, ◌<◌, ◌^◌, length, map, IfErr, IfOk, Ok};
 ghost use Rattle.cert.specs.Certificate.{seen_certificate};
-ghost use Rattle.path_points.specs.InProfile.{certificate_under};
+ghost use Rattle.path_profiles.specs.InProfile.{certificate_under};
 ghost use Rattle.der_stream.specs.Sequence.{joined};
 ghost use Rattle.cli_operands.specs.CertificateValues.{IsFailureAmong, IsFailureAt};
 ghost use Rattle.cli_operands.specs.PathText.{AreTexts};
 
 use cert::{CertFault, Certificate};
 use cli_failures::Failure;
-use path_points::read_certificate_under;
+use path_profiles::read_certificate_under;
 use statements_facts::Profile;
 use std::alloc::Global;
 

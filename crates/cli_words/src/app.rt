@@ -10,8 +10,8 @@ use std::alloc::{AllocError, Global};
 const PROGRAM_HELP: &str = "In front of the command may stand:
   --hints           Say what to do about a failure, in a second line on standard error
   --wait SECONDS    How long to wait for a store that another process has open; 10 if left out
-  --profile PROFILE 'wide' to take lists of distribution points, and responses by SHA-256, too; 'stated' if left out. A store is of one
-                    profile from its making
+  --profile PROFILE 'wide' to take lists of distribution points, responses by SHA-256, and constraints on mail addresses and URIs, too;
+                    'stated' if left out. A store is of one profile from its making
 With no command:
   --version         Print the version, the kit that proved it, and the SHA-256 of the sources
 

@@ -3,10 +3,10 @@ use Rattle.std.proofs.Common.{◌≡◌, ℕ, zero, suc, ◌+◌, ◌-◌, ◌<�
 use Rattle.std.specs.List.{list_any, list_all}
 use Rattle.std.specs.Str.{bytes_eq}
 use Rattle.std.proofs.lemmas.Slice.Eq.{bytes_eq-Decides}
-use Rattle.std.proofs.lemmas.List.{get_or-take, get_or_default}
+use Rattle.std.proofs.lemmas.List.{get_or-map, get_or-take, get_or_default, length-map}
 use Rattle.std.proofs.lemmas.List.Folds.{Any-from_list_any, list_any-from_Any, list_any_at}
 use Rattle.std.proofs.lemmas.List.Sums.{AllPass-from_list_all, list_all-from_AllPass}
-use Rattle.std.proofs.lemmas.Bool.{false≢true, cases_order}
+use Rattle.std.proofs.lemmas.Bool.{false≢true, false_from_ne_true, cases_order}
 use Rattle.std.proofs.lemmas.List.Elements.{Contains-get_or, All-contains}
 use Rattle.names.specs.GeneralName.{IsProcessed}
 use Rattle.names.specs.GeneralLayout.{NameContents, GeneralName, SubtreeBase, directory_name, dns_name, ip_address, other_name}
@@ -17,11 +17,15 @@ use Rattle.path_conditions.specs.declared.form_set.FormSet.{FormSet}
 use Rattle.path.specs.declared.reason.Reason.{Reason}
 use Rattle.path.specs.declared.reason.Reason.TheVariants.{Repeated, Signature, NotYet, Expired, Issuer, NotPermitted, Excluded, ConstraintForm, NotCa, PathLength, KeyCertSign, Policy, CriticalUnknown, Purpose, Empty, TooLong, NoValidPolicy, AnyPolicyMapped, NoUserPolicy}
 use Rattle.path.specs.Query.{Query, Accepts, count, certificate_numbered}
-use Rattle.path_conditions.specs.NamesOf.{names_of, BearsForm}
+use Rattle.path_conditions.specs.NamesOf.{names_of, BearsForm, PermitsNamesOf, ExcludesNoNameOf, ConstrainsNoFormOf}
+use Rattle.cert.specs.CertificateHosts.{CertificateHosts}
+use Rattle.path_host_constraints.specs.HostConditions.{HostsArePermitted, HostsAreNotExcluded, UrisHaveHosts}
+use Rattle.path_host_constraints.specs.HostConstraints.{Permit, DoNotExclude, FindHosts}
+use Rattle.path_host_constraints.proofs.Laws.{permit_exactly, exclude_exactly, find_hosts_exactly}
 use Rattle.path.specs.Reason.{reason_rank}
-use Rattle.path.specs.Conditions.{IsNotRepeated, NamesArePermitted, NamesAreNotExcluded, ConstraintsAreProcessed, IsWithinPathLength, MeetsCondition, MeetsConditions}
+use Rattle.path.specs.Conditions.{IsNotRepeated, NamesArePermitted, NamesAreNotExcluded, ConstraintsAreProcessed, constraints_at, hosts_at, IsWithinPathLength, MeetsCondition, MeetsConditions}
 use Rattle.path_conditions.specs.Narrowing.{is_in_one_of}
-use Rattle.path_conditions.specs.Constraints.{Constraints, PermitsIn, permits_in, permits_name, has_number, BearsOneOf}
+use Rattle.path_conditions.specs.Constraints.{Constraints, PermitsIn, permits_in, permits_name, has_number, BearsOneOf, PermitsEach, ExcludesNone}
 use Rattle.path.specs.State.{Progress, IsPermitted}
 use Rattle.path.specs.Keeping.{Represents}
 use Rattle.path_conditions.proofs.Laws.{Laws, laws_of_names, in_one, list_any-map}
@@ -89,16 +93,47 @@ module _ (q : Query) where
         λ ok t. let a = earlier_to k test (omega arith) t in ok a.0 a.1 a.2 ((same_texts _ _).0 a.3 ∙ here),
       )
 
--- names
+-- names: those of the forms that certificates themselves carry, and mail addresses and hosts
+
+abbrev pub PermitsNames : Query → ℕ → Type 0
+PermitsNames q j = (i : ℕ) → 1 ≤ i → i < j → PermitsNamesOf (constraints_at q i) (certificate_numbered q j)
+
+abbrev pub ExcludesNoName : Query → ℕ → Type 0
+ExcludesNoName q j = (i : ℕ) → 1 ≤ i → i < j → ExcludesNoNameOf (constraints_at q i) (certificate_numbered q j)
+
+abbrev pub ConstrainsNone : Query → ℕ → Type 0
+ConstrainsNone q j = (i : ℕ) → 1 ≤ i → i < j → ConstrainsNoFormOf (constraints_at q i) (certificate_numbered q j)
+
+pub permitted_both : (q : Query) (j : ℕ) → (PermitsNames q j × HostsArePermitted (hosts_at q) j) ↔ NamesArePermitted q j
+permitted_both q j = (
+  λ both i low high. record { names = both.0 i low high; hosts = both.1 i low high },
+  λ all. (λ i low high. (all i low high).names, λ i low high. (all i low high).hosts),
+)
+
+pub not_excluded_both : (q : Query) (j : ℕ) → (ExcludesNoName q j × HostsAreNotExcluded (hosts_at q) j) ↔ NamesAreNotExcluded q j
+not_excluded_both q j = (
+  λ both i low high. record { names = both.0 i low high; hosts = both.1 i low high },
+  λ all. (λ i low high. (all i low high).names, λ i low high. (all i low high).hosts),
+)
+
+pub processed_both : (q : Query) (j : ℕ) → (ConstrainsNone q j × UrisHaveHosts (hosts_at q) j) ↔ ConstraintsAreProcessed q j
+processed_both q j = (
+  λ both i low high. record { names = both.0 i low high; hosts = both.1 i low high },
+  λ all. (λ i low high. (all i low high).names, λ i low high. (all i low high).hosts),
+)
 
 permits_in_says : Laws → (list : Option (List SubtreeBase)) (x : GeneralName) → (permits_in list x ≡ true) ↔ PermitsIn list x
 permits_in_says laws None x = (λ _. tt, λ _. refl)
 permits_in_says laws (Some list) x = in_one laws list x
 
-module _ (laws : Laws) (q : Query) (k : ℕ) (issuer : NameContents) (key : List ℕ) (room : Option ℕ) (held : Constraints) (forms : FormSet) (is : Represents q k issuer key room held forms) where
-  through : {A B C : Type 0} → A ↔ B → B ↔ C → A ↔ C
-  through f g = (λ a. g.0 (f.0 a), λ c. f.1 (g.1 c))
+through : {A B C : Type 0} → A ↔ B → B ↔ C → A ↔ C
+through f g = (λ a. g.0 (f.0 a), λ c. f.1 (g.1 c))
 
+-- two conditions, of which either is met where the other one is
+both_met : {A B C D : Type 0} → A ↔ C → B ↔ D → (A × B) ↔ (C × D)
+both_met f g = (λ p. (f.0 p.0, g.0 p.1), λ p. (f.1 p.0, g.1 p.1))
+
+module _ (laws : Laws) (q : Query) (k : ℕ) (issuer : NameContents) (key : List ℕ) (room : Option ℕ) (held : Constraints) (forms : FormSet) (is : Represents q k issuer key room held forms) where
   permits_says : (x : GeneralName) → IsProcessed (form_of_general_name x) → (permits_name held x ≡ true) ↔ IsPermitted q k x
   permits_says (directory_name n) p = through (permits_in_says laws held.directory (directory_name n)) (is.directory_is (directory_name n) refl)
   permits_says (dns_name n) p = through (permits_in_says laws held.dns (dns_name n)) (is.dns_is (dns_name n) refl)
@@ -112,23 +147,23 @@ module _ (laws : Laws) (q : Query) (k : ℕ) (issuer : NameContents) (key : List
   permits_unless (other_name m n) f = refl
 
   pub names_permitted : (c : Certificate) → c ≡ certificate_numbered q (k + 1)
-      → (list_all (λ x. permits_name held x) (names_of c) ≡ true) ↔ NamesArePermitted q (k + 1)
+      → (list_all (λ x. permits_name held x) (names_of c) ≡ true) ↔ PermitsNames q (k + 1)
   names_permitted c here =
       let names = names_of (certificate_numbered q (k + 1)) in
-      let all : (list_all (λ x. permits_name held x) names ≡ true) ↔ NamesArePermitted q (k + 1) = (
+      let all : (list_all (λ x. permits_name held x) names ≡ true) ↔ PermitsNames q (k + 1) = (
         λ t i low high x among p speaks.
             let pass = AllPass-from_list_all (λ y. permits_name held y) names t in
             (permits_says x p).0 (All-contains (λ y. permits_name held y ≡ true) names x pass among) i low (omega arith) speaks,
         λ ok. list_all-from_AllPass (λ x. permits_name held x) names
             (λ m d l. permits_unless _ (λ p i low high speaks. ok i low (omega arith) _ (Contains-get_or names m d l) p speaks)),
       ) in
-      subst (λ e. (list_all (λ x. permits_name held x) (names_of e) ≡ true) ↔ NamesArePermitted q (k + 1)) (sym here) all
+      subst (λ e. (list_all (λ x. permits_name held x) (names_of e) ≡ true) ↔ PermitsNames q (k + 1)) (sym here) all
 
   pub names_not_excluded : (c : Certificate) → c ≡ certificate_numbered q (k + 1)
-      → (list_any (λ x. is_in_one_of held.excluded x) (names_of c) ≡ true → ⊥) ↔ NamesAreNotExcluded q (k + 1)
+      → (list_any (λ x. is_in_one_of held.excluded x) (names_of c) ≡ true → ⊥) ↔ ExcludesNoName q (k + 1)
   names_not_excluded c here =
       let names = names_of (certificate_numbered q (k + 1)) in
-      let none : (list_any (λ x. is_in_one_of held.excluded x) names ≡ true → ⊥) ↔ NamesAreNotExcluded q (k + 1) = (
+      let none : (list_any (λ x. is_in_one_of held.excluded x) names ≡ true → ⊥) ↔ ExcludesNoName q (k + 1) = (
         λ no i low high x among ex.
             no (list_any-from_Any (λ y. is_in_one_of held.excluded y) names
             (among.0, x, among.1, among.2, (in_one laws held.excluded x).1 ((is.excluded_is x).1 (i, low, omega arith, ex)))),
@@ -137,10 +172,10 @@ module _ (laws : Laws) (q : Query) (k : ℕ) (issuer : NameContents) (key : List
             let ex = (is.excluded_is a.1).0 ((in_one laws held.excluded a.1).0 a.4) in
             ok ex.0 ex.1 (omega (arith, ex.2)) a.1 (a.0, a.2, a.3) ex.3,
       ) in
-      subst (λ e. (list_any (λ x. is_in_one_of held.excluded x) (names_of e) ≡ true → ⊥) ↔ NamesAreNotExcluded q (k + 1)) (sym here) none
+      subst (λ e. (list_any (λ x. is_in_one_of held.excluded x) (names_of e) ≡ true → ⊥) ↔ ExcludesNoName q (k + 1)) (sym here) none
 
   pub constraints_processed : (c : Certificate) → c ≡ certificate_numbered q (k + 1)
-      → (((number : ℕ) × (has_number forms number ≡ true) × BearsForm c number) → ⊥) ↔ ConstraintsAreProcessed q (k + 1)
+      → (((number : ℕ) × (has_number forms number ≡ true) × BearsForm c number) → ⊥) ↔ ConstrainsNone q (k + 1)
   constraints_processed c here = (
     λ none i low high number bears constrains.
         none (number, (is.forms_are number).1 (i, low, omega arith, constrains), subst (λ e. BearsForm e number) (sym here) bears),
@@ -148,6 +183,28 @@ module _ (laws : Laws) (q : Query) (k : ℕ) (issuer : NameContents) (key : List
         let e = (is.forms_are found.0).0 found.1 in
         ok e.0 e.1 (omega (arith, e.2)) found.0 (subst (λ e. BearsForm e found.0) here found.2) e.3,
   )
+
+  module _ (c : Certificate) (here : c ≡ certificate_numbered q (k + 1)) where
+    -- a test of its mail addresses and hosts says of the certificate what it says of number k + 1
+    of_here : (P : CertificateHosts → Type 0) {Q : Type 0} → P (hosts_at q (k + 1)) ↔ Q → P c.hosts ↔ Q
+    of_here P {Q} says = subst (λ (d : Certificate). P d.hosts ↔ Q) (sym here) says
+
+    pub each_permitted : PermitsEach held c ↔ NamesArePermitted q (k + 1)
+    each_permitted =
+        through (λ each. (each.names, each.hosts), λ two. record { names = two.0; hosts = two.1 })
+        (through (both_met (names_permitted c here) (of_here (λ d. Permit held.hosts d) (permit_exactly (hosts_at q) (k + 1) held.hosts is.hosts_are)))
+        (permitted_both q (k + 1)))
+
+    pub none_excluded : ExcludesNone held c ↔ NamesAreNotExcluded q (k + 1)
+    none_excluded =
+        through (λ none. (λ t. false≢true (sym none.names ∙ t), none.hosts), λ two. record { names = false_from_ne_true _ two.0; hosts = two.1 })
+        (through (both_met (names_not_excluded c here) (of_here (λ d. DoNotExclude held.hosts d) (exclude_exactly (hosts_at q) (k + 1) held.hosts is.hosts_are)))
+        (not_excluded_both q (k + 1)))
+
+    pub each_processed : ((BearsOneOf forms c → ⊥) × FindHosts held.hosts c.hosts) ↔ ConstraintsAreProcessed q (k + 1)
+    each_processed =
+        through (both_met (constraints_processed c here) (of_here (λ d. FindHosts held.hosts d) (find_hosts_exactly (hosts_at q) (k + 1) held.hosts is.hosts_are)))
+        (processed_both q (k + 1))
 
   pub path_length_says : k < count q → (c : Certificate) → c ≡ certificate_numbered q (k + 1) → (is_self_issued c ≡ false → room ≡ Some 0 → ⊥) ↔ IsWithinPathLength q (k + 1)
   path_length_says below c here = (
@@ -269,6 +326,15 @@ not_last k n h ne = elim (cases_order (k + 1) n) [ inl e ↦ absurd (ne e) | inr
 
 -- the same at a state, whose fields give the view v
 
+-- a certificate of the path, as it was read
+numbered_is : (q : Query) (path : List code.Certificate) → q.certificates ≡ map seen_certificate path → (k : ℕ) → k < count q → (c : code.Certificate) → c ≡ get_or path k c
+    → seen_certificate c ≡ certificate_numbered q (k + 1)
+numbered_is q path all k below c is =
+    ap seen_certificate is ∙ (sym (get_or-map seen_certificate path k c q.anchor long) ∙ (ap (λ l. get_or l k q.anchor) (sym all) ∙ sym (at_more q k)))
+  where
+    long : k < length path
+    long = let same = ap (λ (l : List Certificate). length l) all in let len = length-map path seen_certificate in omega (arith, below)
+
 module _ {V : Type 0} {v w : Progress V} (e : v ≡ w) where
   pub below_of : w.done < count w.query → v.done < count v.query
   below_of h = subst (λ u. u.done < count u.query) (sym e) h
@@ -277,31 +343,31 @@ module _ {V : Type 0} {v w : Progress V} (e : v ≡ w) where
   here_of c h = subst (λ u. c ≡ certificate_numbered u.query (u.done + 1)) (sym e) h
 
   module _ (issuer : NameContents) (key : List ℕ) (room : Option ℕ) (forms : FormSet) (is : Represents v.query v.done issuer key room v.constraints forms) (c : Certificate) (here : c ≡ certificate_numbered w.query (w.done + 1)) where
-    pub permitted_at : (b : Bool) → b ≡ list_all (λ x. permits_name v.constraints x) (names_of c) → (b ≡ true) ↔ NamesArePermitted w.query (w.done + 1)
+    pub permitted_at : (b : Bool) → ((b ≡ true) ↔ PermitsEach v.constraints c) → (b ≡ true) ↔ NamesArePermitted w.query (w.done + 1)
     permitted_at b says =
-        let f = subst (λ u. (list_all (λ x. permits_name v.constraints x) (names_of c) ≡ true) ↔ NamesArePermitted u.query (u.done + 1)) e
-        (names_permitted laws_of_names v.query v.done issuer key room v.constraints forms is c (here_of c here)) in
-        (λ t. f.0 (sym says ∙ t), λ ok. says ∙ f.1 ok)
+        through says (subst (λ u. PermitsEach v.constraints c ↔ NamesArePermitted u.query (u.done + 1)) e
+        (each_permitted laws_of_names v.query v.done issuer key room v.constraints forms is c (here_of c here)))
 
-    pub not_excluded_at : (b : Bool) → b ≡ list_any (λ x. is_in_one_of v.constraints.excluded x) (names_of c) → (not b ≡ true) ↔ NamesAreNotExcluded w.query (w.done + 1)
+    pub not_excluded_at : (b : Bool) → ((b ≡ true) ↔ ExcludesNone v.constraints c) → (b ≡ true) ↔ NamesAreNotExcluded w.query (w.done + 1)
     not_excluded_at b says =
-        let f = subst (λ u. (list_any (λ x. is_in_one_of v.constraints.excluded x) (names_of c) ≡ true → ⊥) ↔ NamesAreNotExcluded u.query (u.done + 1)) e
-        (names_not_excluded laws_of_names v.query v.done issuer key room v.constraints forms is c (here_of c here)) in
-        let g = not_true b {P = b ≡ true} (λ t. t, λ t. t) in
-        (λ t. f.0 (λ a. g.0 t (says ∙ a)), λ ok. g.1 (λ t. f.1 ok (sym says ∙ t)))
+        through says (subst (λ u. ExcludesNone v.constraints c ↔ NamesAreNotExcluded u.query (u.done + 1)) e
+        (none_excluded laws_of_names v.query v.done issuer key room v.constraints forms is c (here_of c here)))
 
-    pub processed_at : (b : Bool) → ((b ≡ true) ↔ BearsOneOf forms c) → (not b ≡ true) ↔ ConstraintsAreProcessed w.query (w.done + 1)
-    processed_at b says =
-        let f = subst (λ u. (BearsOneOf forms c → ⊥) ↔ ConstraintsAreProcessed u.query (u.done + 1)) e
-        (constraints_processed laws_of_names v.query v.done issuer key room v.constraints forms is c (here_of c here)) in
-        let g = not_true b says in
-        (λ t. f.0 (g.0 t), λ ok. g.1 (f.1 ok))
+    pub processed_at : ((BearsOneOf forms c → ⊥) × FindHosts v.constraints.hosts c.hosts) ↔ ConstraintsAreProcessed w.query (w.done + 1)
+    processed_at =
+        subst (λ u. ((BearsOneOf forms c → ⊥) × FindHosts v.constraints.hosts c.hosts) ↔ ConstraintsAreProcessed u.query (u.done + 1)) e
+        (each_processed laws_of_names v.query v.done issuer key room v.constraints forms is c (here_of c here))
 
     pub within_at : w.done < count w.query → (b self : Bool) → self ≡ is_self_issued c → ((b ≡ true) ↔ (self ≡ false → room ≡ Some 0 → ⊥)) → (b ≡ true) ↔ IsWithinPathLength w.query (w.done + 1)
     within_at below b self same says =
         let f = subst (λ u. (is_self_issued c ≡ false → room ≡ Some 0 → ⊥) ↔ IsWithinPathLength u.query (u.done + 1)) e
         (path_length_says laws_of_names v.query v.done issuer key room v.constraints forms is (below_of below) c (here_of c here)) in
         (λ t. f.0 (λ o. says.0 t (same ∙ o)), λ ok. says.1 (λ o. f.1 ok (sym same ∙ o)))
+
+  pub certificate_at : (path : List code.Certificate) → v.query.certificates ≡ map seen_certificate path → w.done < count w.query → (c : code.Certificate) → c ≡ get_or path v.done c
+      → seen_certificate c ≡ certificate_numbered w.query (w.done + 1)
+  certificate_at path all below c is =
+      subst (λ u. seen_certificate c ≡ certificate_numbered u.query (u.done + 1)) e (numbered_is v.query path all v.done (below_of below) c is)
 
   pub repeated_at : (path : List code.Certificate) → v.query.certificates ≡ map seen_certificate path → w.done < count w.query → (c : code.Certificate) → seen_certificate c ≡ certificate_numbered w.query (w.done + 1)
       → (xs : List code.Certificate) → xs ≡ take v.done path → (b : Bool) → b ≡ list_any (λ d. bytes_eq d.octets.now c.octets.now) xs → (not b ≡ true) ↔ IsNotRepeated w.query (w.done + 1)

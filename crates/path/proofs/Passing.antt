@@ -14,11 +14,14 @@ use Rattle.cert.specs.declared.certificate.Certificate as code
 use Rattle.path_conditions.specs.declared.form_set.FormSet.{FormSet}
 use Rattle.path.specs.Query.{Query, count, certificate_numbered}
 use Rattle.path_conditions.specs.NamesOf.{IsInOneOf, AreAbout, Permits, Excludes, Constrains}
-use Rattle.path.specs.Conditions.{constraints_at, IsWithinPathLength}
+use Rattle.cert.specs.NameConstraints.{NameConstraints}
+use Rattle.path_host_constraints.specs.HostConstraints.{AreLeftBy, HostConstraints, Narrows}
+use Rattle.path_host_constraints.proofs.Laws.{narrowed_is_left}
+use Rattle.path.specs.Conditions.{constraints_at, hosts_at, IsWithinPathLength}
 use Rattle.path_conditions.specs.CertificateConditions.{path_length_of}
 use Rattle.path.specs.Validity.{IsServed}
 use Rattle.path_conditions.specs.Narrowing.{is_in_one_of, are_about, is_processed_base, of_form, narrowed, narrowed_with, change_of, changed}
-use Rattle.path_conditions.specs.Constraints.{Constraints, size_of, subtree_count, narrowed_by, has_number}
+use Rattle.path_conditions.specs.Constraints.{Constraints, size_of, subtree_count, narrowed_by, AreNarrowed, has_number}
 use Rattle.path.specs.State.{IsPermitted, IsExcluded, AdmitsExactly, Progress, subtrees_of, subtrees_up_to}
 use Rattle.path.specs.Keeping.{spent, lesser, Represents, ListIs, IsConstrained}
 use Rattle.path_conditions.proofs.Laws.{list_any-filter, list_any-weaker, length-filter-le, Laws, laws_of_names, in_one, about, narrowed_sound, narrowed_complete, of_form_is, of_form_from, length-narrowed, processed_test, three_forms}
@@ -179,13 +182,18 @@ bound_more laws q k below held before =
     let joined = length-append held.excluded (filter (λ s. is_processed_base s) here.excluded) in
     omega arith
 
+-- the constraints behind a certificate, with these on mail addresses and hosts
+abbrev behind : NameConstraints → Constraints → HostConstraints → Constraints
+behind carried held hosts = record (narrowed_by carried held) { hosts = hosts }
+
 -- one more certificate
 pub keeps_more : Laws → (q : Query) (k : ℕ) (issuer : NameContents) (key : List ℕ) (room : Option ℕ) (held : Constraints) (forms : FormSet) → Represents q k issuer key room held forms
     → k < count q → count q ≤ 128 → (k + 1 < count q → IsWithinPathLength q (k + 1))
+    → (hosts : HostConstraints) → Narrows (hosts_at q (k + 1)) held.hosts hosts
     → (forms' : FormSet) → ((number : ℕ) → has_number forms' number ≡ ((has_number forms number || are_about (constraints_at q (k + 1)).permitted (F.Other number)) || are_about (constraints_at q (k + 1)).excluded (F.Other number)))
     → Represents q (k + 1) (certificate_numbered q (k + 1)).subject (certificate_numbered q (k + 1)).key_info.value.octets
-    (lesser (spent room (is_self_issued (certificate_numbered q (k + 1)))) (path_length_of (certificate_numbered q (k + 1)))) (narrowed_by (constraints_at q (k + 1)) held) forms'
-keeps_more laws q k issuer key room held forms is below few allow forms' more =
+    (lesser (spent room (is_self_issued (certificate_numbered q (k + 1)))) (path_length_of (certificate_numbered q (k + 1)))) (behind (constraints_at q (k + 1)) held hosts) forms'
+keeps_more laws q k issuer key room held forms is below few allow hosts narrows forms' more =
     record {
       within = omega arith;
       few = omega arith;
@@ -197,6 +205,7 @@ keeps_more laws q k issuer key room held forms is below few allow forms' more =
       ip_is = list_more laws q k F.Ip held.ip is.ip_is;
       excluded_is = λ x. excluded_more laws q k held.excluded is.excluded_is x;
       forms_are = forms_more laws q k forms is.forms_are forms' more;
+      hosts_are = narrowed_is_left (hosts_at q) (k + 1) held.hosts hosts (omega arith) is.hosts_are narrows;
       bound = bound_more laws q k below held is.bound;
     }
 
@@ -204,6 +213,10 @@ keeps_more laws q k issuer key room held forms is below few allow forms' more =
 
 pub admits_of : {V : Type 0} {v w : Progress V} → v ≡ w → (issuer : NameContents) (key : List ℕ) (room : Option ℕ) (forms : FormSet) → Represents v.query v.done issuer key room v.constraints forms → AdmitsExactly w.query w.done w.constraints
 admits_of {V} {v} {w} e issuer key room forms is = subst (λ u. AdmitsExactly u.query u.done u.constraints) e (admits_exactly v.query v.done issuer key room v.constraints forms is)
+
+pub hosts_of : {V : Type 0} {v w : Progress V} → v ≡ w → (issuer : NameContents) (key : List ℕ) (room : Option ℕ) (forms : FormSet) → Represents v.query v.done issuer key room v.constraints forms
+    → AreLeftBy (hosts_at w.query) (w.done + 1) w.constraints.hosts
+hosts_of {V} {v} {w} e issuer key room forms is = subst (λ (u : Progress V). AreLeftBy (hosts_at u.query) (u.done + 1) u.constraints.hosts) e is.hosts_are
 
 few_subtrees : (path : List code.Certificate) → sum_by subtrees_of (map seen_certificate path) ≤ 4096 * length path
 few_subtrees [] = omega arith
@@ -230,14 +243,15 @@ pub keeps_passed : {V : Type 0} {v w : Progress V} → v ≡ w → (issuer : Nam
     → w.done < count w.query → IsServed w.query → (w.done + 1 < count w.query → IsWithinPathLength w.query (w.done + 1))
     → (c : Certificate) → c ≡ certificate_numbered w.query (w.done + 1)
     → (self : Bool) → self ≡ is_self_issued c → (limit room' : Option ℕ) → limit ≡ path_length_of c → room' ≡ lesser (spent room self) limit
-    → (held' : Constraints) → held' ≡ narrowed_by c.extensions.name_constraints v.constraints
+    → (held' : Constraints) → AreNarrowed c v.constraints held'
     → (forms' : FormSet) → ((number : ℕ) → has_number forms' number ≡ ((has_number forms number || are_about c.extensions.name_constraints.permitted (F.Other number)) || are_about c.extensions.name_constraints.excluded (F.Other number)))
     → Represents v.query (v.done + 1) c.subject c.key_info.value.octets room' held' forms'
 keeps_passed {V} {v} {w} e issuer key room forms is below served allow c at self es limit room' el er held' eh forms' more =
     let here = here_of e c at in
     let allow' = subst (λ (u : Progress V). u.done + 1 < count u.query → IsWithinPathLength u.query (u.done + 1)) (sym e) allow in
     let few = subst (λ (u : Progress V). IsServed u.query) (sym e) served in
-    let all = keeps_more laws_of_names v.query v.done issuer key room v.constraints forms is (below_of e below) few.few allow' forms'
+    let all = keeps_more laws_of_names v.query v.done issuer key room v.constraints forms is (below_of e below) few.few allow'
+    held'.hosts (subst (λ (d : Certificate). Narrows d.hosts v.constraints.hosts held'.hosts) here eh.hosts) forms'
     (subst (λ (d : Certificate). (number : ℕ) → has_number forms' number ≡ ((has_number forms number || are_about d.extensions.name_constraints.permitted (F.Other number)) || are_about d.extensions.name_constraints.excluded (F.Other number))) here more) in
-    let all' = subst (λ (d : Certificate). Represents v.query (v.done + 1) d.subject d.key_info.value.octets (lesser (spent room (is_self_issued d)) (path_length_of d)) (narrowed_by d.extensions.name_constraints v.constraints) forms') (sym here) all in
-    rw (er, el, es, eh) all'
+    let all' = subst (λ (d : Certificate). Represents v.query (v.done + 1) d.subject d.key_info.value.octets (lesser (spent room (is_self_issued d)) (path_length_of d)) (behind d.extensions.name_constraints v.constraints held'.hosts) forms') (sym here) all in
+    subst (λ (h : Constraints). Represents v.query (v.done + 1) c.subject c.key_info.value.octets room' h forms') (sym eh.lists) (rw (er, el, es) all')

@@ -1,17 +1,16 @@
 -- What a certificate of a path has to meet (RFC 5280, 6.1.3 to 6.1.5), each looked at over the whole path; those on it alone
 -- stand in CertificateConditions.
-use Rattle.std.specs.Prelude.{◌≡◌, ◌≢◌, ◌⊎◌, ◌<◌, ◌≤◌, ◌-◌, ℕ, List, false, not, IsTrue, Some, Contains, count_by, take, drop}
-use Rattle.names.specs.declared.general.Form.TheVariants as F
-use Rattle.names.specs.GeneralName.{IsProcessed}
-use Rattle.names.specs.GeneralLayout.{NameContents, GeneralName}
-use Rattle.names.specs.GeneralCoverage.{form_of_general_name}
+use Rattle.std.specs.Prelude.{◌≡◌, ◌≢◌, ◌⊎◌, ◌<◌, ◌≤◌, ◌-◌, ℕ, List, false, not, IsTrue, Some, count_by, take, drop}
+use Rattle.names.specs.GeneralLayout.{NameContents}
 use Rattle.names.specs.DistinguishedName.{NamesMatch}
 use Rattle.cert.specs.Certificate.{Certificate, is_self_issued}
+use Rattle.cert.specs.CertificateHosts.{CertificateHosts}
 use Rattle.cert.specs.NameConstraints.{NameConstraints}
+use Rattle.path_host_constraints.specs.HostConditions.{PermitHosts, ExcludeNoHost, HaveHosts}
 use Rattle.path.specs.declared.reason.Reason.{Reason}
 use Rattle.path.specs.declared.reason.Reason.TheVariants.{Repeated, Signature, NotYet, Expired, Issuer, NotPermitted, Excluded, ConstraintForm, NotCa, PathLength, KeyCertSign, Policy, CriticalUnknown, Purpose, Empty, TooLong, NoValidPolicy, AnyPolicyMapped, NoUserPolicy}
 use Rattle.path.specs.Query.{Query, Accepts, count, certificate_numbered}
-use Rattle.path_conditions.specs.NamesOf.{names_of, BearsForm, Permits, Excludes, Constrains}
+use Rattle.path_conditions.specs.NamesOf.{PermitsNamesOf, ExcludesNoNameOf, ConstrainsNoFormOf}
 use Rattle.path_conditions.specs.CertificateConditions.{HasBegun, HasNotExpired, IsCa, path_length_of, MaySignCertificates, NeedsNoPolicyTree, CriticalExtensionsAreKnown, AllowsPurpose}
 
 -- no earlier certificate of the path has the same octets (a choice of the profile)
@@ -34,23 +33,34 @@ AreNamesChecked q j = (j ≡ count q) ⊎ (is_self_issued (certificate_numbered 
 abbrev pub constraints_at : Query → ℕ → NameConstraints
 constraints_at q i = (certificate_numbered q i).extensions.name_constraints
 
--- each name of a processed form is permitted by each earlier certificate (6.1.3 (b))
+-- A certificate permits each name of a processed form of a later one (6.1.3 (b)), and, where that is processed, each mail address and host.
+pub record PermitNames (above c : Certificate) : Type 0 where
+  pub names : PermitsNamesOf above.extensions.name_constraints c
+  pub hosts : PermitHosts above.hosts c.hosts
+
+-- it excludes none of them (6.1.3 (c))
+pub record ExcludeNoName (above c : Certificate) : Type 0 where
+  pub names : ExcludesNoNameOf above.extensions.name_constraints c
+  pub hosts : ExcludeNoHost above.hosts c.hosts
+
+-- It constrains no form that is not processed and that a name has, and no URIs if one has no host that is a DNS name (4.2.1.10).
+pub record ConstrainNoOtherForm (above c : Certificate) : Type 0 where
+  pub names : ConstrainsNoFormOf above.extensions.name_constraints c
+  pub hosts : HaveHosts above.hosts c.hosts
+
+-- each earlier certificate does
 abbrev pub NamesArePermitted : Query → ℕ → Type 0
-NamesArePermitted q j =
-    (i : ℕ) → 1 ≤ i → i < j → (name : GeneralName) → Contains (names_of (certificate_numbered q j)) name →
-    IsProcessed (form_of_general_name name) → Permits (constraints_at q i) name
+NamesArePermitted q j = (i : ℕ) → 1 ≤ i → i < j → PermitNames (certificate_numbered q i) (certificate_numbered q j)
 
--- no earlier certificate excludes a name (6.1.3 (c))
 abbrev pub NamesAreNotExcluded : Query → ℕ → Type 0
-NamesAreNotExcluded q j =
-    (i : ℕ) → 1 ≤ i → i < j → (name : GeneralName) → Contains (names_of (certificate_numbered q j)) name →
-    ¬ Excludes (constraints_at q i) name
+NamesAreNotExcluded q j = (i : ℕ) → 1 ≤ i → i < j → ExcludeNoName (certificate_numbered q i) (certificate_numbered q j)
 
--- no earlier certificate constrains a form that is not processed and that a name has (4.2.1.10)
 abbrev pub ConstraintsAreProcessed : Query → ℕ → Type 0
-ConstraintsAreProcessed q j =
-    (i : ℕ) → 1 ≤ i → i < j → (number : ℕ) → BearsForm (certificate_numbered q j) number →
-    ¬ Constrains (constraints_at q i) (F.Other number)
+ConstraintsAreProcessed q j = (i : ℕ) → 1 ≤ i → i < j → ConstrainNoOtherForm (certificate_numbered q i) (certificate_numbered q j)
+
+-- what certificate i says of mail addresses and hosts, where that is processed
+abbrev pub hosts_at : Query → ℕ → CertificateHosts
+hosts_at q i = (certificate_numbered q i).hosts
 
 -- how many of the certificates i + 1 to j are not self-issued
 abbrev pub others_between : Query → ℕ → ℕ → ℕ

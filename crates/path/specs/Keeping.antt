@@ -7,7 +7,8 @@ use Rattle.names.specs.GeneralCoverage.{form_of_general_name}
 use Rattle.path_conditions.specs.declared.form_set.FormSet.{FormSet}
 use Rattle.path.specs.Query.{Query, count, certificate_numbered}
 use Rattle.path_conditions.specs.NamesOf.{IsInOneOf, Constrains}
-use Rattle.path.specs.Conditions.{constraints_at, others_between}
+use Rattle.path_host_constraints.specs.HostConstraints.{AreLeftBy}
+use Rattle.path.specs.Conditions.{constraints_at, hosts_at, others_between}
 use Rattle.path_conditions.specs.CertificateConditions.{path_length_of}
 use Rattle.path_conditions.specs.Constraints.{Constraints, PermitsIn, subtree_count, has_number}
 use Rattle.path.specs.State.{IsPermitted, IsExcluded, subtrees_up_to}
@@ -53,4 +54,5 @@ pub record Represents (q : Query) (k : ℕ) (issuer : NameContents) (key : List 
   pub ip_is : ListIs q k F.Ip held.ip
   pub excluded_is : (name : GeneralName) → (IsInOneOf held.excluded name ↔ IsExcluded q k name)
   pub forms_are : (number : ℕ) → ((has_number forms number ≡ true) ↔ IsConstrained q k number)
+  pub hosts_are : AreLeftBy (hosts_at q) (k + 1) held.hosts
   pub bound : subtree_count held ≤ subtrees_up_to q k

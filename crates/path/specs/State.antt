@@ -13,7 +13,8 @@ use Rattle.path.specs.declared.reason.Step.{Step}
 use Rattle.path.specs.declared.reason.Step.TheVariants.{Passed, Failed, Ended}
 use Rattle.path.specs.Query.{Query, Accepts, count}
 use Rattle.path_conditions.specs.NamesOf.{Permits, Excludes}
-use Rattle.path.specs.Conditions.{MeetsCondition, MeetsConditions, constraints_at}
+use Rattle.path_host_constraints.specs.HostConstraints.{HasNoBase}
+use Rattle.path.specs.Conditions.{MeetsCondition, MeetsConditions, constraints_at, hosts_at}
 use Rattle.path.specs.Validity.{IsServed, IsLeastBroken, IsNotServedFor, IsOutcome}
 use Rattle.path_conditions.specs.Narrowing.{has_processed}
 use Rattle.path_conditions.specs.Constraints.{Constraints, AdmitsName}
@@ -59,10 +60,11 @@ subtrees_of c = length c.extensions.name_constraints.permitted + length c.extens
 abbrev pub subtrees_up_to : Query → ℕ → ℕ
 subtrees_up_to q k = sum_by subtrees_of (take k q.certificates)
 
--- certificate j carries no subtree of a processed form
+-- certificate j carries no subtree of a processed form, mail addresses and hosts among them
 pub record CarriesNoSubtree (q : Query) (j : ℕ) : Type 0 where
   pub permitted : has_processed (constraints_at q j).permitted ≡ false
   pub excluded : has_processed (constraints_at q j).excluded ≡ false
+  pub hosts : HasNoBase (hosts_at q j)
 
 -- no certificate of the path carries one
 abbrev pub CarryNoSubtrees : code.Certificate → List code.Certificate → ℤ → Option (Bor (List ℕ)) → Type 0

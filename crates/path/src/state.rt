@@ -7,9 +7,10 @@ ghost use Rattle.std.specs.Str.{bytes_eq};
 ghost use Rattle.cert.specs.Certificate.{is_self_issued, seen_certificate};
 ghost use Rattle.path.specs.declared.reason.Reason.TheVariants as reason;
 ghost use Rattle.path.specs.Query.{count, certificate_numbered};
-ghost use Rattle.path.specs.Conditions.{AreNamesChecked};
+ghost use Rattle.path.specs.Conditions.{AreNamesChecked, ConstraintsAreProcessed, hosts_at};
 ghost use Rattle.path.specs.Validity.{IsServed};
 ghost use Rattle.path_conditions.specs.Constraints.{subtree_count};
+ghost use Rattle.path_host_constraints.specs.HostConstraints.{AreLeftBy};
 ghost use Rattle.path.specs.State.{question, TakesStep, NextMeets, MeetsAll, NextBreaks, NextPasses, AdmitsExactly, CarriesNoSubtree, subtrees_up_to};
 ghost use Rattle.path.specs.Keeping.{spent, lesser};
 
@@ -167,11 +168,13 @@ impl<'p, 'c, V: Verifier> State<'p, 'c, V> {
         }
     }
 
-    /// How many certificates have passed. Their constraints admit exactly the names that may follow.
+    /// How many certificates have passed. Their constraints admit exactly the names that may follow, and the mail addresses and hosts.
     pub fn done(&self) -> usize
         ensures done { result ≡ self.now.done }
         ensures within { result ≤ count self.now.query }
         ensures admits { AdmitsExactly self.now.query self.now.done self.now.constraints }
+        ensures hosts { AreLeftBy (hosts_at self.now.query) (self.now.done + 1)
+            self.now.constraints.hosts }
     {
         self.done
     }
@@ -251,14 +254,23 @@ impl<'p, 'c, V: Verifier> State<'p, 'c, V> {
         requires { self.now.done < count self.now.query }
         ensures { IsTrue result ↔ NextMeets V.accepts self.now reason.Excluded }
     {
-        !self.constraints.excludes_name_of(self.certificate()) || !self.are_names_checked()
+        self.constraints.excludes_no_name_of(self.certificate()) || !self.are_names_checked()
+    }
+
+    /// Whether no form that a name has and that is not processed is constrained, nor URIs where one has no host.
+    fn is_no_other_form_constrained(&self) -> bool
+        requires { self.now.done < count self.now.query }
+        ensures { IsTrue result ↔ ConstraintsAreProcessed self.now.query (self.now.done + 1) }
+    {
+        let certificate = self.certificate();
+        !self.forms.has_form_of_name_of(certificate) && self.constraints.finds_hosts_of(certificate)
     }
 
     fn are_constraints_processed(&self) -> bool
         requires { self.now.done < count self.now.query }
         ensures { IsTrue result ↔ NextMeets V.accepts self.now reason.ConstraintForm }
     {
-        !self.forms.has_form_of_name_of(self.certificate()) || !self.are_names_checked()
+        self.is_no_other_form_constrained() || !self.are_names_checked()
     }
 
     fn is_within_path_length(&self) -> bool
@@ -319,9 +331,9 @@ impl<'p, 'c, V: Verifier> State<'p, 'c, V> {
         ensures calm { CarriesNoSubtree self.old.query (self.old.done + 1) → IsOk result }
     {
         let certificate = self.certificate();
-        let carried = &certificate.extensions.name_constraints;
-        self.constraints.narrow(self.alloc, carried)?;
-        self.forms.insert_forms_of(carried);
+        self.constraints.narrow(self.alloc, certificate)?;
+        self.forms
+            .insert_forms_of(&certificate.extensions.name_constraints);
         self.room = lesser_of(
             room_behind(self.room, certificate),
             path_length(certificate),

@@ -59,8 +59,8 @@ pub excluded_are : (list before : List SubtreeBase) (carried : List Subtree) →
     → list ≡ before ++ filter (λ base. is_processed_base base) (bases_of carried)
 excluded_are list before carried made = made ∙ ap (λ (l : List SubtreeBase). before ++ l) (bases_of-selected (λ base. is_processed_base base) carried)
 
-pub constraints_are : (one other : Constraints) → one.directory ≡ other.directory → one.dns ≡ other.dns → one.ip ≡ other.ip → one.excluded ≡ other.excluded → one ≡ other
-constraints_are one other a b c d = λ i. record { directory = a i; dns = b i; ip = c i; excluded = d i }
+pub constraints_are : (one other : Constraints) → one.directory ≡ other.directory → one.dns ≡ other.dns → one.ip ≡ other.ip → one.excluded ≡ other.excluded → one.hosts ≡ other.hosts → one ≡ other
+constraints_are one other a b c d e = λ i. record { directory = a i; dns = b i; ip = c i; excluded = d i; hosts = e i }
 
 module _ (laws : Laws) (form : Form) (held carried : List SubtreeBase) (x : GeneralName) where
   within : (s t : SubtreeBase) → is_base_inside s t ≡ true → is_covered x s ≡ true → is_covered x t ≡ true

@@ -7,12 +7,14 @@ use Rattle.names.specs.declared.general.Form.TheVariants as F
 use Rattle.names.specs.GeneralLayout.{NameContents, GeneralName, SubtreeBase, directory_name, dns_name, ip_address, other_name}
 use Rattle.names.specs.GeneralCoverage.{form_of_general_name, is_of_form}
 use Rattle.names.specs.DistinguishedName.{HasKind}
-use Rattle.cert.specs.Certificate.{Certificate}
-use Rattle.cert.specs.NameConstraints.{NameConstraints, seen_name_constraints}
-use Rattle.cert.specs.declared.name_constraints.NameConstraints as carried
+use Rattle.cert.specs.Certificate.{Certificate, seen_certificate}
+use Rattle.cert.specs.CertificateHosts.{seen_hosts}
+use Rattle.cert.specs.NameConstraints.{NameConstraints}
+use Rattle.cert.specs.declared.certificate.Certificate as read
+use Rattle.path_host_constraints.specs.HostConstraints.{HostConstraints, DoNotExclude, HasNoBase, Narrows, Permit, no_constraints as no_host_constraints}
 use Rattle.path_conditions.specs.declared.constraints.Constraints as code
 use Rattle.path_conditions.specs.declared.form_set.FormSet.{FormSet}
-use Rattle.path_conditions.specs.NamesOf.{IsInOneOf, BearsForm, subject_names, email_address}
+use Rattle.path_conditions.specs.NamesOf.{IsInOneOf, BearsForm, names_of, subject_names, email_address}
 use Rattle.path_conditions.specs.Narrowing.{bases_of, is_in_one_of, are_about, has_processed, is_processed_base, changed, change_of}
 
 pub record Constraints : Type 0 where
@@ -20,6 +22,8 @@ pub record Constraints : Type 0 where
   pub dns : Option (List SubtreeBase)
   pub ip : Option (List SubtreeBase)
   pub excluded : List SubtreeBase
+  -- on mail addresses and hosts
+  pub hosts : HostConstraints
 
 abbrev pub seen_constraints : code.Constraints → Constraints
 seen_constraints held = record {
@@ -27,11 +31,12 @@ seen_constraints held = record {
   dns = held.dns;
   ip = held.ip;
   excluded = held.excluded;
+  hosts = held.hosts;
 }
 
 -- those before the first certificate, which admit every name
 abbrev pub no_constraints : Constraints
-no_constraints = record { directory = None; dns = None; ip = None; excluded = [] }
+no_constraints = record { directory = None; dns = None; ip = None; excluded = []; hosts = no_host_constraints }
 
 -- the permitted subtrees for names of the form
 abbrev pub permitted_for : Constraints → Form → Option (List SubtreeBase)
@@ -56,24 +61,29 @@ size_of (Some list) = length list
 abbrev pub subtree_count : Constraints → ℕ
 subtree_count held = size_of held.directory + size_of held.dns + size_of held.ip + length held.excluded
 
--- the constraints behind one more certificate
+-- the constraints behind one more certificate, with those on mail addresses and hosts as they are
 abbrev pub narrowed_by : NameConstraints → Constraints → Constraints
-narrowed_by carried held = record {
+narrowed_by carried held = record held {
   directory = changed held.directory (change_of F.Directory held.directory carried.permitted);
   dns = changed held.dns (change_of F.Dns held.dns carried.permitted);
   ip = changed held.ip (change_of F.Ip held.ip carried.permitted);
   excluded = held.excluded ++ filter (λ base. is_processed_base base) carried.excluded;
 }
 
+-- behind one more certificate
+pub record AreNarrowed (c : Certificate) (old new : Constraints) : Type 0 where
+  pub lists : new ≡ record (narrowed_by c.extensions.name_constraints old) { hosts = new.hosts }
+  pub hosts : Narrows c.hosts old.hosts new.hosts
+
 -- the same of those that are held
-abbrev pub IsNarrowedBy : carried.NameConstraints → code.Constraints → code.Constraints → Type 0
-IsNarrowedBy constraints old new =
-    seen_constraints new ≡ narrowed_by (seen_name_constraints constraints) (seen_constraints old)
+abbrev pub IsNarrowedBy : read.Certificate → code.Constraints → code.Constraints → Type 0
+IsNarrowedBy c old new = AreNarrowed (seen_certificate c) (seen_constraints old) (seen_constraints new)
 
 -- a certificate carries no subtree of a processed form
-pub record HasNoProcessed (constraints : carried.NameConstraints) : Type 0 where
-  pub permitted : has_processed (bases_of constraints.permitted.items) ≡ false
-  pub excluded : has_processed (bases_of constraints.excluded.items) ≡ false
+pub record HasNoProcessed (c : read.Certificate) : Type 0 where
+  pub permitted : has_processed (bases_of c.extensions.name_constraints.permitted.items) ≡ false
+  pub excluded : has_processed (bases_of c.extensions.name_constraints.excluded.items) ≡ false
+  pub hosts : HasNoBase (seen_hosts c.hosts)
 
 -- tests
 
@@ -88,11 +98,20 @@ permits_name held (ip_address name) = permits_in held.ip (ip_address name)
 permits_name held (other_name number name) = true
 
 -- the constraints that are held permit all names, and exclude one of them
-abbrev pub permits_each : code.Constraints → List GeneralName → Bool
-permits_each held names = list_all (λ name. permits_name (seen_constraints held) name) names
+abbrev pub permits_each : Constraints → List GeneralName → Bool
+permits_each held names = list_all (λ name. permits_name held name) names
 
-abbrev pub excludes_one : code.Constraints → List GeneralName → Bool
-excludes_one held names = list_any (λ name. is_in_one_of (seen_constraints held).excluded name) names
+abbrev pub excludes_one : Constraints → List GeneralName → Bool
+excludes_one held names = list_any (λ name. is_in_one_of held.excluded name) names
+
+-- they permit, and exclude none of, the names of a certificate, its mail addresses and hosts
+pub record PermitsEach (held : Constraints) (c : Certificate) : Type 0 where
+  pub names : permits_each held (names_of c) ≡ true
+  pub hosts : Permit held.hosts c.hosts
+
+pub record ExcludesNone (held : Constraints) (c : Certificate) : Type 0 where
+  pub names : excludes_one held (names_of c) ≡ false
+  pub hosts : DoNotExclude held.hosts c.hosts
 
 -- the subject as a name, where it is not empty
 abbrev pub names_in_subject : NameContents → List GeneralName

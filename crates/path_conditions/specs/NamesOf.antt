@@ -1,9 +1,10 @@
 -- The names of a certificate that name constraints are about (RFC 5280, 4.2.1.10 and 6.1.3 (b), (c)), and what the constraints
 -- of another certificate say of a name.
-use Rattle.std.specs.Prelude.{◌≡◌, ◌⊎◌, ℕ, List, [], ◌∷◌, ◌++◌, Any}
+use Rattle.std.specs.Prelude.{◌≡◌, ◌⊎◌, ℕ, List, [], ◌∷◌, ◌++◌, Any, Contains}
 use Rattle.names.specs.declared.general.Form.{Form}
 use Rattle.names.specs.declared.general.Form.TheVariants as F
 use Rattle.names.specs.DistinguishedName.{RdnMap, HasKind}
+use Rattle.names.specs.GeneralName.{IsProcessed}
 use Rattle.names.specs.GeneralLayout.{NameContents, GeneralName, SubtreeBase, directory_name}
 use Rattle.names.specs.GeneralCoverage.{form_of_general_name, form_of_base, LiesInSubtree}
 use Rattle.cert.specs.Certificate.{Certificate}
@@ -48,3 +49,15 @@ Excludes constraints name = IsInOneOf constraints.excluded name
 -- there is a subtree for names of the form
 abbrev pub Constrains : NameConstraints → Form → Type 0
 Constrains constraints form = AreAbout constraints.permitted form ⊎ AreAbout constraints.excluded form
+
+-- The constraints permit each name of a processed form of a certificate (6.1.3 (b)), exclude none of its names (6.1.3 (c)), and constrain no
+-- form that is not processed and that a name has (4.2.1.10).
+abbrev pub PermitsNamesOf : NameConstraints → Certificate → Type 0
+PermitsNamesOf constraints c =
+    (name : GeneralName) → Contains (names_of c) name → IsProcessed (form_of_general_name name) → Permits constraints name
+
+abbrev pub ExcludesNoNameOf : NameConstraints → Certificate → Type 0
+ExcludesNoNameOf constraints c = (name : GeneralName) → Contains (names_of c) name → ¬ Excludes constraints name
+
+abbrev pub ConstrainsNoFormOf : NameConstraints → Certificate → Type 0
+ConstrainsNoFormOf constraints c = (number : ℕ) → BearsForm c number → ¬ Constrains constraints (F.Other number)

@@ -1,13 +1,17 @@
 //! Subtrees that are excluded, of which each certificate may add more.
 
 ghost use Rattle.std.specs.Prelude.{◌≡◌, ◌≤◌, ◌++◌, [], length, OnOk, OnErr};
+ghost use Rattle.cert.specs.CertificateHosts.{seen_hosts};
 ghost use Rattle.names.specs.GeneralView.{general_name};
+ghost use Rattle.path_host_constraints.specs.HostConstraints.{Narrows};
 ghost use Rattle.path_conditions.specs.Narrowing.{bases_of, is_in_one_of};
 
 use crate::repetition::repeats_end;
 use crate::subtree_list::index_of;
+use cert::CertificateHosts;
 use names::{General, Subtree};
 use names_order::Index;
+use path_host_constraints::HostConstraints;
 use std::alloc::{AllocError, Global};
 use std::marker::Model;
 
@@ -65,19 +69,38 @@ impl<'a> Excluded<'a> {
         }
     }
 
-    /// Adds subtrees. Those that were added last and come again are in an index already.
-    pub(crate) fn extend(&mut self, alloc: Global, more: &[Subtree<'a>]) -> Result<(), AllocError>
+    /// Adds subtrees, and narrows the constraints on hosts; or, if memory runs out, neither. Subtrees that were added last and come again are
+    /// in an index already.
+    pub(crate) fn extend(
+        &mut self,
+        alloc: Global,
+        more: &[Subtree<'a>],
+        hosts: &mut HostConstraints<'a>,
+        named: &CertificateHosts<'a>,
+    ) -> Result<(), AllocError>
         ensures ok { OnOk result (self.new ≡ self.old ++ bases_of more.now) }
+        ensures narrowed { OnOk result (Narrows (seen_hosts named.now) hosts.old hosts.new) }
         ensures err { OnErr result (self.new ≡ self.old) }
+        ensures unchanged { OnErr result (hosts.new ≡ hosts.old) }
     {
         if repeats_end(&self.items, more) {
-            return self.items.extend_from_slice(more);
+            self.items.reserve(more.len())?;
+            hosts.narrow(alloc, named)?;
+            return match self.items.extend_from_slice(more) {
+                Ok(()) => Ok(()),
+                Err(_) => unreachable!(),
+            };
         }
         let coming = index_of(alloc, more)?;
         let lasting = count_lasting(&self.indexes, more.len());
         let index = Index::joined(alloc, &self.indexes[lasting..], coming)?;
         self.indexes.reserve(1)?;
-        self.items.extend_from_slice(more)?;
+        self.items.reserve(more.len())?;
+        hosts.narrow(alloc, named)?;
+        match self.items.extend_from_slice(more) {
+            Ok(()) => {}
+            Err(_) => unreachable!(),
+        }
         self.indexes.truncate(lasting);
         match self.indexes.push(index) {
             Ok(()) => Ok(()),

@@ -3,12 +3,11 @@ use Rattle.std.proofs.Common.{◌≡◌, ◌≢◌, ℕ, ℤ, zero, suc, ◌-◌
 use Rattle.std.proofs.lemmas.List.{take-take}
 use Rattle.std.proofs.lemmas.List.Sums.{sum_by-take-le}
 use Rattle.cert.specs.Certificate.{Certificate, is_self_issued}
-use Rattle.cert.specs.NameConstraints.{NameConstraints}
 use Rattle.path_conditions.specs.CertificateConditions.{HasBegun, HasNotExpired, IsCa, path_length_of, MaySignCertificates, NeedsNoPolicyTree, CriticalExtensionsAreKnown, AllowsPurpose}
 use Rattle.path.specs.declared.reason.Reason.TheVariants.{Repeated, Signature, NotYet, Expired, Issuer, NotPermitted, Excluded, ConstraintForm, NotCa, PathLength, KeyCertSign, Policy, CriticalUnknown, Purpose, Empty, TooLong, NoValidPolicy, AnyPolicyMapped, NoUserPolicy}
 use Rattle.path.specs.Query.{Accepts, Query, count, certificate_numbered}
-use Rattle.path.specs.Conditions.{IsSignedByIssuer, IsNamedByIssuer, AreNamesChecked, MeetsConditions, others_between}
-use Rattle.path_issuers.specs.Factors.{IsRightAlone, IsRightAsAuthority, Issues, IssuesFirst, PermitNames, ExcludeNoName, ConstrainNoOtherForm, AdmitNames, AdmitNamesBelow, others_above_target, IsRightAbove, AreRight, ValidPathFactors, TailIsRight}
+use Rattle.path.specs.Conditions.{IsSignedByIssuer, IsNamedByIssuer, AreNamesChecked, MeetsConditions, PermitNames, ExcludeNoName, ConstrainNoOtherForm, others_between}
+use Rattle.path_issuers.specs.Factors.{IsRightAlone, IsRightAsAuthority, Issues, IssuesFirst, AdmitNames, AdmitNamesBelow, others_above_target, IsRightAbove, AreRight, ValidPathFactors, TailIsRight}
 use Rattle.path_issuers.proofs.Numbering.{under, at_next, issuer_next, checked_next, checked_before, with_earlier_next, with_first, with_earlier_before, path_length_next, path_length_first, path_length_before, all_to, all_from}
 
 -- what an earlier certificate and a later one meet together
@@ -17,18 +16,18 @@ abbrev Differ : Certificate → Certificate → Type 0
 Differ c later = c.octets ≢ later.octets
 
 abbrev PermitsNames : Certificate → Certificate → Type 0
-PermitsNames c later = PermitNames c.extensions.name_constraints later
+PermitsNames c later = PermitNames c later
 
 abbrev ExcludesNoName : Certificate → Certificate → Type 0
-ExcludesNoName c later = ExcludeNoName c.extensions.name_constraints later
+ExcludesNoName c later = ExcludeNoName c later
 
 abbrev ConstrainsNoForm : Certificate → Certificate → Type 0
-ConstrainsNoForm c later = ConstrainNoOtherForm c.extensions.name_constraints later
+ConstrainsNoForm c later = ConstrainNoOtherForm c later
 
 -- what a certificate meets with certificate j of those below it, under which it is the anchor
 record MeetsWith (c : Certificate) (q : Query) (j : ℕ) : Type 0 where
   different : Differ c (certificate_numbered q j)
-  names : AreNamesChecked q j → AdmitNames c.extensions.name_constraints (certificate_numbered q j)
+  names : AreNamesChecked q j → AdmitNames c (certificate_numbered q j)
   path_length : j < count q → (most : ℕ) → path_length_of c ≡ Some most → others_between q 0 j ≤ most
 
 module _ (accepts : Accepts) (moment : ℤ) (purpose : Option (List ℕ)) where
@@ -118,29 +117,29 @@ module _ (accepts : Accepts) (moment : ℤ) (purpose : Option (List ℕ)) where
 
   -- names, by number and along the list
 
-  admit_to : (constraints : NameConstraints) (a : Certificate) (cs : List Certificate)
-      → ((j : ℕ) → 1 ≤ j → j ≤ length cs → AreNamesChecked (under moment purpose a cs) j → AdmitNames constraints (certificate_numbered (under moment purpose a cs) j))
-      → AdmitNamesBelow constraints cs
-  admit_to constraints a [] f = tt
-  admit_to constraints a (c ∷ []) f = f 1 (omega arith) (omega arith) (inl (omega arith))
-  admit_to constraints a (c ∷ d ∷ cs) f = (
+  admit_to : (above : Certificate) (a : Certificate) (cs : List Certificate)
+      → ((j : ℕ) → 1 ≤ j → j ≤ length cs → AreNamesChecked (under moment purpose a cs) j → AdmitNames above (certificate_numbered (under moment purpose a cs) j))
+      → AdmitNamesBelow above cs
+  admit_to above a [] f = tt
+  admit_to above a (c ∷ []) f = f 1 (omega arith) (omega arith) (inl (omega arith))
+  admit_to above a (c ∷ d ∷ cs) f = (
     λ other. f 1 (omega arith) (omega arith) (inr other),
-    admit_to constraints c (d ∷ cs) (λ j l h checked.
-        subst (AdmitNames constraints) (at_next moment purpose a c (d ∷ cs) j h)
+    admit_to above c (d ∷ cs) (λ j l h checked.
+        subst (AdmitNames above) (at_next moment purpose a c (d ∷ cs) j h)
         (f (suc j) (omega arith) (omega arith) (checked_before moment purpose a c (d ∷ cs) j h checked))),
   )
 
-  admit_from : (constraints : NameConstraints) (a : Certificate) (cs : List Certificate) → AdmitNamesBelow constraints cs
-      → (j : ℕ) → 1 ≤ j → j ≤ length cs → AreNamesChecked (under moment purpose a cs) j → AdmitNames constraints (certificate_numbered (under moment purpose a cs) j)
-  admit_from constraints a [] all j l h checked = absurd (omega arith)
-  admit_from constraints a (c ∷ cs) all zero l h checked = absurd (omega arith)
-  admit_from constraints a (c ∷ []) all (suc zero) l h checked = all
-  admit_from constraints a (c ∷ []) all (suc (suc j)) l h checked = absurd (omega arith)
-  admit_from constraints a (c ∷ d ∷ cs) all (suc zero) l h (inl last) = absurd (omega arith)
-  admit_from constraints a (c ∷ d ∷ cs) all (suc zero) l h (inr other) = all.0 other
-  admit_from constraints a (c ∷ d ∷ cs) all (suc (suc j)) l h checked =
-      subst (AdmitNames constraints) (sym (at_next moment purpose a c (d ∷ cs) (suc j) (omega arith)))
-      (admit_from constraints c (d ∷ cs) all.1 (suc j) (omega arith) (omega arith)
+  admit_from : (above : Certificate) (a : Certificate) (cs : List Certificate) → AdmitNamesBelow above cs
+      → (j : ℕ) → 1 ≤ j → j ≤ length cs → AreNamesChecked (under moment purpose a cs) j → AdmitNames above (certificate_numbered (under moment purpose a cs) j)
+  admit_from above a [] all j l h checked = absurd (omega arith)
+  admit_from above a (c ∷ cs) all zero l h checked = absurd (omega arith)
+  admit_from above a (c ∷ []) all (suc zero) l h checked = all
+  admit_from above a (c ∷ []) all (suc (suc j)) l h checked = absurd (omega arith)
+  admit_from above a (c ∷ d ∷ cs) all (suc zero) l h (inl last) = absurd (omega arith)
+  admit_from above a (c ∷ d ∷ cs) all (suc zero) l h (inr other) = all.0 other
+  admit_from above a (c ∷ d ∷ cs) all (suc (suc j)) l h checked =
+      subst (AdmitNames above) (sym (at_next moment purpose a c (d ∷ cs) (suc j) (omega arith)))
+      (admit_from above c (d ∷ cs) all.1 (suc j) (omega arith) (omega arith)
       (checked_next moment purpose a c (d ∷ cs) (suc j) (omega arith) checked))
 
   -- the bound on all above the target is the bound on each number of them
@@ -162,7 +161,7 @@ module _ (accepts : Accepts) (moment : ℤ) (purpose : Option (List ℕ)) where
   meets_each : (c d : Certificate) (cs : List Certificate) → IsRightAbove accepts moment c (d ∷ cs) → MeetsEachBelow c (d ∷ cs)
   meets_each c d cs right j l h = record {
     different = λ same. all_from moment purpose (λ later. later.octets ≢ c.octets) c (d ∷ cs) right.different j l h (sym same);
-    names = admit_from c.extensions.name_constraints c (d ∷ cs) right.names j l h;
+    names = admit_from c c (d ∷ cs) right.names j l h;
     path_length = λ more most lim. let few = right.length most lim in omega (arith, others_bound c (d ∷ cs) j more);
   }
 
@@ -223,7 +222,7 @@ module _ (accepts : Accepts) (moment : ℤ) (purpose : Option (List ℕ)) where
         issues = issued;
         different = all_to moment purpose (λ later. later.octets ≢ c.octets) c (d ∷ cs) (λ j l h same. (with j l h).different (sym same));
         length = bounded c (d ∷ cs) with;
-        names = admit_to c.extensions.name_constraints c (d ∷ cs) (λ j l h. (with j l h).names);
+        names = admit_to c c (d ∷ cs) (λ j l h. (with j l h).names);
       }
 
   right_of : (a c : Certificate) (cs : List Certificate) → MeetAll a (c ∷ cs) → Issues accepts a c × AreRight accepts moment purpose (c ∷ cs)

@@ -1,16 +1,10 @@
 -- What a valid path is made of, seen from its target upward: what each certificate meets alone, and what each meets with those below it
 -- (RFC 5280, 6.1.3 to 6.1.5), as a path meets it that is built in the forward direction (RFC 4158).
-use Rattle.std.specs.Prelude.{◌≡◌, ◌≢◌, ◌↔◌, ◌≤◌, ◌-◌, ◌++◌, ℕ, ℤ, List, [], ◌∷◌, Option, Some, false, not, Contains, count_by, length, take}
+use Rattle.std.specs.Prelude.{◌≡◌, ◌≢◌, ◌↔◌, ◌≤◌, ◌-◌, ◌++◌, ℕ, ℤ, List, [], ◌∷◌, Option, Some, false, not, count_by, length, take}
 use Rattle.std.specs.List.{AllByRecursion}
-use Rattle.names.specs.declared.general.Form.TheVariants as F
-use Rattle.names.specs.GeneralName.{IsProcessed}
-use Rattle.names.specs.GeneralLayout.{GeneralName}
-use Rattle.names.specs.GeneralCoverage.{form_of_general_name}
 use Rattle.cert.specs.Certificate.{Certificate, is_self_issued}
-use Rattle.cert.specs.NameConstraints.{NameConstraints}
-use Rattle.path_conditions.specs.NamesOf.{names_of, BearsForm, Permits, Excludes, Constrains}
 use Rattle.path_conditions.specs.CertificateConditions.{HasBegun, HasNotExpired, IsCa, path_length_of, MaySignCertificates, NeedsNoPolicyTree, CriticalExtensionsAreKnown, AllowsPurpose}
-use Rattle.path.specs.Conditions.{IsNamedByIssuer, IsSignedByIssuer}
+use Rattle.path.specs.Conditions.{ConstrainNoOtherForm, ExcludeNoName, IsNamedByIssuer, IsSignedByIssuer, PermitNames}
 use Rattle.path.specs.Query.{Accepts, Query}
 use Rattle.path.specs.Validity.{IsServed, IsValidPath}
 
@@ -42,24 +36,11 @@ abbrev pub IssuesFirst : Accepts → Certificate → List Certificate → Type 0
 IssuesFirst accepts issuer [] = ⊥
 IssuesFirst accepts issuer (c ∷ below) = Issues accepts issuer c
 
--- the constraints permit each name of a processed form (6.1.3 (b))
-abbrev pub PermitNames : NameConstraints → Certificate → Type 0
-PermitNames constraints c =
-    (name : GeneralName) → Contains (names_of c) name → IsProcessed (form_of_general_name name) → Permits constraints name
-
--- they exclude no name (6.1.3 (c))
-abbrev pub ExcludeNoName : NameConstraints → Certificate → Type 0
-ExcludeNoName constraints c = (name : GeneralName) → Contains (names_of c) name → ¬ Excludes constraints name
-
--- they constrain no form that is not processed and that a name has (4.2.1.10)
-abbrev pub ConstrainNoOtherForm : NameConstraints → Certificate → Type 0
-ConstrainNoOtherForm constraints c = (number : ℕ) → BearsForm c number → ¬ Constrains constraints (F.Other number)
-
--- the constraints let the names of the certificate pass
-pub record AdmitNames (constraints : NameConstraints) (c : Certificate) : Type 0 where
-  pub permitted : PermitNames constraints c
-  pub not_excluded : ExcludeNoName constraints c
-  pub processed : ConstrainNoOtherForm constraints c
+-- the constraints of one certificate let the names of another pass
+pub record AdmitNames (above c : Certificate) : Type 0 where
+  pub permitted : PermitNames above c
+  pub not_excluded : ExcludeNoName above c
+  pub processed : ConstrainNoOtherForm above c
 
 -- of certificates that are in order down to a target, the fact holds of the target, and of each above it that is not self-issued
 abbrev pub HoldsOfNamed : (Certificate → Type 0) → List Certificate → Type 0
@@ -68,8 +49,8 @@ HoldsOfNamed Holds (target ∷ []) = Holds target
 HoldsOfNamed Holds (c ∷ next ∷ below) = (is_self_issued c ≡ false → Holds c) × HoldsOfNamed Holds (next ∷ below)
 
 -- the constraints let their names pass
-abbrev pub AdmitNamesBelow : NameConstraints → List Certificate → Type 0
-AdmitNamesBelow constraints below = HoldsOfNamed (AdmitNames constraints) below
+abbrev pub AdmitNamesBelow : Certificate → List Certificate → Type 0
+AdmitNamesBelow above below = HoldsOfNamed (AdmitNames above) below
 
 -- how many certificates above the target are not self-issued
 abbrev pub others_above_target : List Certificate → ℕ
@@ -89,7 +70,7 @@ pub record IsRightAbove (accepts : Accepts) (moment : ℤ) (c : Certificate) (be
   pub issues : IssuesFirst accepts c below
   pub different : Lacks c.octets below
   pub length : AllowsLength c below
-  pub names : AdmitNamesBelow c.extensions.name_constraints below
+  pub names : AdmitNamesBelow c below
 
 -- certificates in order down to a target are right, whatever stands above them
 abbrev pub AreRight : Accepts → ℤ → Option (List ℕ) → List Certificate → Type 0

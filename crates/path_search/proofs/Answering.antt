@@ -4,7 +4,7 @@ use Rattle.std.specs.List.{list_any, list_all}
 use Rattle.std.proofs.lemmas.List.Folds.{Any-from_list_any, list_any-from_Any}
 use Rattle.std.proofs.lemmas.List.Sums.{AllPass-from_list_all, list_all-from_AllPass}
 use Rattle.std.proofs.lemmas.List.Elements.{Contains-get_or, All-contains}
-use Rattle.std.proofs.lemmas.Bool.{cases_Bool, false≢true, or_cases, or_left, or_right, and_parts, and_from}
+use Rattle.std.proofs.lemmas.Bool.{cases_Bool, false≢true, false_from_ne_true, or_cases, or_left, or_right, and_parts, and_from}
 use Rattle.names.specs.declared.general.Form.{Form}
 use Rattle.names.specs.declared.general.Form.TheVariants as F
 use Rattle.names.specs.GeneralName.{IsProcessed}
@@ -13,12 +13,15 @@ use Rattle.names.specs.GeneralCoverage.{is_covered, form_of_general_name}
 use Rattle.cert.specs.Certificate.{Certificate}
 use Rattle.cert.specs.NameConstraints.{NameConstraints}
 use Rattle.path_conditions.specs.declared.form_set.FormSet.{FormSet}
-use Rattle.path_conditions.specs.NamesOf.{names_of, AreAbout, IsInOneOf, Permits, Constrains}
+use Rattle.path_host_constraints.specs.HostConstraints.{FindHosts, HostConstraints, Narrows}
+use Rattle.path_host_constraints.proofs.Laws.{permit_alone, exclude_alone, find_hosts_alone}
+use Rattle.path_conditions.specs.NamesOf.{names_of, AreAbout, IsInOneOf, Permits, Excludes, Constrains, PermitsNamesOf, ExcludesNoNameOf, ConstrainsNoFormOf}
 use Rattle.path_conditions.specs.Narrowing.{is_in_one_of, are_about, is_processed_base, change_of, changed}
-use Rattle.path_conditions.specs.Constraints.{Constraints, no_constraints, narrowed_by, permits_in, permits_name, has_number, AddsFormsOf, BearsOneOf}
+use Rattle.path_conditions.specs.Constraints.{Constraints, no_constraints, narrowed_by, AreNarrowed, PermitsEach, ExcludesNone, permits_each, excludes_one, permits_in, permits_name, has_number, AddsFormsOf, BearsOneOf}
 use Rattle.path_conditions.proofs.Laws.{Laws, laws_of_names, in_one, about, of_form_is, of_form_from, list_any-filter, list_any-weaker, processed_test}
 use Rattle.path_search.specs.Authority.{AnswersFor}
-use Rattle.path_issuers.specs.Factors.{PermitNames, ExcludeNoName, ConstrainNoOtherForm, AdmitNames}
+use Rattle.path.specs.Conditions.{PermitNames, ExcludeNoName, ConstrainNoOtherForm}
+use Rattle.path_issuers.specs.Factors.{AdmitNames}
 
 module _ (laws : Laws) where
   -- the list of a form permits what the subtrees permit
@@ -66,34 +69,37 @@ module _ (laws : Laws) where
     ],
   )
 
-  permits_say : (carried : NameConstraints) (x : GeneralName) → IsProcessed (form_of_general_name x)
-      → (permits_name (narrowed_by carried no_constraints) x ≡ true) ↔ Permits carried x
-  permits_say carried (directory_name n) p = list_says F.Directory carried.permitted (directory_name n) refl
-  permits_say carried (dns_name n) p = list_says F.Dns carried.permitted (dns_name n) refl
-  permits_say carried (ip_address n) p = list_says F.Ip carried.permitted (ip_address n) refl
-  permits_say carried (other_name m n) p = absurd p
+  permits_say : (carried : NameConstraints) (hosts : HostConstraints) (x : GeneralName) → IsProcessed (form_of_general_name x)
+      → (permits_name (record (narrowed_by carried no_constraints) { hosts = hosts }) x ≡ true) ↔ Permits carried x
+  permits_say carried hosts (directory_name n) p = list_says F.Directory carried.permitted (directory_name n) refl
+  permits_say carried hosts (dns_name n) p = list_says F.Dns carried.permitted (dns_name n) refl
+  permits_say carried hosts (ip_address n) p = list_says F.Ip carried.permitted (ip_address n) refl
+  permits_say carried hosts (other_name m n) p = absurd p
 
-pub answers : (carried : NameConstraints) (none held : Constraints) → none ≡ no_constraints → held ≡ narrowed_by carried none
-    → (old new : FormSet) → ((number : ℕ) → has_number old number ≡ false) → AddsFormsOf carried old new → AnswersFor carried held new
-answers carried none held empty narrowed old new no_forms adds =
-    subst (λ h. AnswersFor carried h new) (sym (narrowed ∙ ap (narrowed_by carried) empty)) record {
-      permits = permits_say laws_of_names carried;
-      excludes = excluded_says laws_of_names carried.excluded;
+pub answers : (c : Certificate) (none held : Constraints) → none ≡ no_constraints → AreNarrowed c none held
+    → (old new : FormSet) → ((number : ℕ) → has_number old number ≡ false) → AddsFormsOf c.extensions.name_constraints old new → AnswersFor c held new
+answers c none held empty narrowed old new no_forms adds =
+    let carried = c.extensions.name_constraints in
+    let lists : held ≡ record (narrowed_by carried no_constraints) { hosts = held.hosts } =
+    narrowed.lists ∙ ap (λ (h : Constraints). record (narrowed_by carried h) { hosts = held.hosts }) empty in
+    record {
+      permits = λ x p. subst (λ h. (permits_name h x ≡ true) ↔ Permits carried x) (sym lists) (permits_say laws_of_names carried held.hosts x p);
+      excludes = λ x. subst (λ (h : Constraints). (is_in_one_of h.excluded x ≡ true) ↔ Excludes carried x) (sym lists) (excluded_says laws_of_names carried.excluded x);
       constrains = forms_say laws_of_names carried old new no_forms adds;
+      narrowed = subst (λ (h : Constraints). Narrows c.hosts h.hosts held.hosts) empty narrowed.hosts;
     }
 
 -- what the answers say of all names of a certificate
 
-not_true : (b : Bool) {P : Type 0} → ((b ≡ true) ↔ P) → ((not b ≡ true) ↔ (P → ⊥))
-not_true true f = (λ e. absurd (false≢true e), λ n. absurd (n (f.0 refl)))
-not_true false f = (λ e p. false≢true (f.1 p), λ n. refl)
+pub through : {A B C : Type 0} → A ↔ B → B ↔ C → A ↔ C
+through f g = (λ a. g.0 (f.0 a), λ c. f.1 (g.1 c))
 
-module _ {v w : Certificate} (same : v ≡ w) (held : Constraints) (forms : FormSet) (given : AnswersFor v.extensions.name_constraints held forms) (c : Certificate) (b : Bool) where
+module _ {v w : Certificate} (same : v ≡ w) (held : Constraints) (forms : FormSet) (given : AnswersFor v held forms) (c : Certificate) where
   abbrev carried : NameConstraints
   carried = w.extensions.name_constraints
 
-  is : AnswersFor w.extensions.name_constraints held forms
-  is = subst (λ (d : Certificate). AnswersFor d.extensions.name_constraints held forms) same given
+  is : AnswersFor w held forms
+  is = subst (λ d. AnswersFor d held forms) same given
 
   permits_unless : (x : GeneralName) → (IsProcessed (form_of_general_name x) → Permits carried x) → permits_name held x ≡ true
   permits_unless (directory_name n) f = (is.permits (directory_name n) tt).1 (f tt)
@@ -101,36 +107,56 @@ module _ {v w : Certificate} (same : v ≡ w) (held : Constraints) (forms : Form
   permits_unless (ip_address n) f = (is.permits (ip_address n) tt).1 (f tt)
   permits_unless (other_name m n) f = refl
 
-  pub permits_all : b ≡ list_all (λ x. permits_name held x) (names_of c) → (b ≡ true) ↔ PermitNames carried c
-  permits_all says = (
+  permits_all : (permits_each held (names_of c) ≡ true) ↔ PermitsNamesOf carried c
+  permits_all = (
     λ t x among p.
-        let pass = AllPass-from_list_all (λ y. permits_name held y) (names_of c) (sym says ∙ t) in
+        let pass = AllPass-from_list_all (λ y. permits_name held y) (names_of c) t in
         (is.permits x p).0 (All-contains (λ y. permits_name held y ≡ true) (names_of c) x pass among),
-    λ ok. says ∙ list_all-from_AllPass (λ x. permits_name held x) (names_of c)
+    λ ok. list_all-from_AllPass (λ x. permits_name held x) (names_of c)
         (λ m d l. permits_unless _ (λ p. ok _ (Contains-get_or (names_of c) m d l) p)),
   )
 
-  pub excludes_none : b ≡ list_any (λ x. is_in_one_of held.excluded x) (names_of c) → (not b ≡ true) ↔ ExcludeNoName carried c
-  excludes_none says =
-      let g = not_true b {P = b ≡ true} (λ t. t, λ t. t) in (
-        λ t x among ex.
-            g.0 t (says ∙ list_any-from_Any (λ y. is_in_one_of held.excluded y) (names_of c) (among.0, x, among.1, among.2, (is.excludes x).1 ex)),
-        λ ok. g.1 (λ t.
-            let a = Any-from_list_any (λ x. is_in_one_of held.excluded x) (names_of c) (sym says ∙ t) in
-            ok a.1 (a.0, a.2, a.3) ((is.excludes a.1).0 a.4)),
+  excludes_none : (excludes_one held (names_of c) ≡ false) ↔ ExcludesNoNameOf carried c
+  excludes_none = (
+    λ none x among ex.
+        false≢true (sym none
+        ∙ list_any-from_Any (λ y. is_in_one_of held.excluded y) (names_of c) (among.0, x, among.1, among.2, (is.excludes x).1 ex)),
+    λ ok. false_from_ne_true _ (λ t.
+        let a = Any-from_list_any (λ x. is_in_one_of held.excluded x) (names_of c) t in
+        ok a.1 (a.0, a.2, a.3) ((is.excludes a.1).0 a.4)),
+  )
+
+  constrains_none : (BearsOneOf forms c → ⊥) ↔ ConstrainsNoFormOf carried c
+  constrains_none = (
+    λ none number bears constrains. none (number, (is.constrains number).1 constrains, bears),
+    λ ok found. ok found.0 found.2 ((is.constrains found.0).0 found.1),
+  )
+
+  pub permits_exactly : PermitsEach held c ↔ PermitNames w c
+  permits_exactly =
+      let hosts = permit_alone w.hosts c.hosts held.hosts is.narrowed in (
+        λ each. record { names = permits_all.0 each.names; hosts = hosts.0 each.hosts },
+        λ all. record { names = permits_all.1 all.names; hosts = hosts.1 all.hosts },
       )
 
-  pub constrains_none : ((b ≡ true) ↔ BearsOneOf forms c) → (not b ≡ true) ↔ ConstrainNoOtherForm carried c
-  constrains_none says =
-      let g = not_true b says in (
-        λ t number bears constrains. g.0 t (number, (is.constrains number).1 constrains, bears),
-        λ ok. g.1 (λ found. ok found.0 found.2 ((is.constrains found.0).0 found.1)),
+  pub excludes_exactly : ExcludesNone held c ↔ ExcludeNoName w c
+  excludes_exactly =
+      let hosts = exclude_alone w.hosts c.hosts held.hosts is.narrowed in (
+        λ none. record { names = excludes_none.0 none.names; hosts = hosts.0 none.hosts },
+        λ all. record { names = excludes_none.1 all.names; hosts = hosts.1 all.hosts },
       )
 
-pub admits : (constraints : NameConstraints) (c : Certificate) (permits excludes constrains : Bool)
-    → ((permits ≡ true) ↔ PermitNames constraints c) → ((excludes ≡ true) ↔ ExcludeNoName constraints c) → ((constrains ≡ true) ↔ ConstrainNoOtherForm constraints c)
-    → permits ≡ true → excludes ≡ true → ((constrains ≡ true) ↔ AdmitNames constraints c)
-admits constraints c permits excludes constrains p e f tp te = (
+  pub constrains_exactly : ((BearsOneOf forms c → ⊥) × FindHosts held.hosts c.hosts) ↔ ConstrainNoOtherForm w c
+  constrains_exactly =
+      let hosts = find_hosts_alone w.hosts c.hosts held.hosts is.narrowed in (
+        λ both. record { names = constrains_none.0 both.0; hosts = hosts.0 both.1 },
+        λ all. (constrains_none.1 all.names, hosts.1 all.hosts),
+      )
+
+pub admits : (above c : Certificate) (permits excludes constrains : Bool)
+    → ((permits ≡ true) ↔ PermitNames above c) → ((excludes ≡ true) ↔ ExcludeNoName above c) → ((constrains ≡ true) ↔ ConstrainNoOtherForm above c)
+    → permits ≡ true → excludes ≡ true → ((constrains ≡ true) ↔ AdmitNames above c)
+admits above c permits excludes constrains p e f tp te = (
   λ t. record { permitted = p.0 tp; not_excluded = e.0 te; processed = f.0 t },
   λ all. f.1 all.processed,
 )

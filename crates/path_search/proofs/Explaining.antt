@@ -8,11 +8,11 @@ use Rattle.std.proofs.lemmas.List.Elements.{All-push, Contains-push, Contains-ap
 use Rattle.cert.specs.Certificate.{Certificate}
 use Rattle.cert.specs.NameConstraints.{NameConstraints}
 use Rattle.path.specs.Query.{Accepts}
-use Rattle.path.specs.Conditions.{IsNamedByIssuer, IsSignedByIssuer}
+use Rattle.path.specs.Conditions.{ConstrainNoOtherForm, ExcludeNoName, IsNamedByIssuer, IsSignedByIssuer, PermitNames}
 use Rattle.path.specs.declared.reason.Reason.{Reason}
 use Rattle.path.specs.declared.reason.Reason.TheVariants.{Repeated, Signature, NotYet, Expired, Issuer, NotPermitted, Excluded, ConstraintForm, NotCa, PathLength, KeyCertSign, Policy, CriticalUnknown, Purpose, Empty, TooLong, NoValidPolicy, AnyPolicyMapped, NoUserPolicy}
 use Rattle.path_issuers.specs.Search.{Search, path_down_to}
-use Rattle.path_issuers.specs.Factors.{AdmitNames, AdmitNamesBelow, ConstrainNoOtherForm, ExcludeNoName, HoldsOfNamed, IsRightAbove, Issues, PermitNames}
+use Rattle.path_issuers.specs.Factors.{AdmitNames, AdmitNamesBelow, HoldsOfNamed, IsRightAbove, Issues}
 use Rattle.path_issuers.specs.Asking.{ArePicked}
 use Rattle.path_search.specs.Collecting.{IsFurthest}
 use Rattle.path_issuers.specs.Links.{anchor_at, certificate_at}
@@ -113,17 +113,17 @@ module _ (accepts : Accepts) (s : Search) (above : List ℕ) where
         fits = record {
           different = meets Repeated;
           length = meets PathLength;
-          names = hold_all (PermitNames c.extensions.name_constraints) (ExcludeNoName c.extensions.name_constraints)
-              (ConstrainNoOtherForm c.extensions.name_constraints) (AdmitNames c.extensions.name_constraints)
+          names = hold_all (PermitNames c) (ExcludeNoName c)
+              (ConstrainNoOtherForm c) (AdmitNames c)
               (λ x permitted not_excluded processed. record { permitted = permitted; not_excluded = not_excluded; processed = processed }) path
               (meets NotPermitted) (meets Excluded) (meets ConstraintForm);
         };
       })
 
-  names_meet : (c : Certificate) (P : NameConstraints → Certificate → Type 0)
-      → ((x : Certificate) → AdmitNames c.extensions.name_constraints x → P c.extensions.name_constraints x)
-      → AdmitNamesBelow c.extensions.name_constraints path → HoldsOfNamed (P c.extensions.name_constraints) path
-  names_meet c P f names = hold_each (P c.extensions.name_constraints) (AdmitNames c.extensions.name_constraints) f path names
+  names_meet : (c : Certificate) (P : Certificate → Certificate → Type 0)
+      → ((x : Certificate) → AdmitNames c x → P c x)
+      → AdmitNamesBelow c path → HoldsOfNamed (P c) path
+  names_meet c P f names = hold_each (P c) (AdmitNames c) f path names
 
   meets_if_right : (place : ℕ) → length path < 128 → IsRightAbove accepts s.moment (certificate_at s place) path
       → Issues accepts (certificate_at s place) top → MeetsEach (Meets place)

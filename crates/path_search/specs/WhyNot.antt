@@ -6,11 +6,11 @@ use Rattle.cert.specs.Certificate.{Certificate}
 use Rattle.path_conditions.specs.CertificateConditions.{HasBegun, HasNotExpired, IsCa, MaySignCertificates, NeedsNoPolicyTree, CriticalExtensionsAreKnown, AllowsPurpose}
 use Rattle.path.specs.declared.reason.Reason.{Reason}
 use Rattle.path.specs.declared.reason.Reason.TheVariants.{Repeated, Signature, NotYet, Expired, Issuer, NotPermitted, Excluded, ConstraintForm, NotCa, PathLength, KeyCertSign, Policy, CriticalUnknown, Purpose, Empty, TooLong, NoValidPolicy, AnyPolicyMapped, NoUserPolicy}
-use Rattle.path.specs.Conditions.{IsNamedByIssuer, IsSignedByIssuer}
+use Rattle.path.specs.Conditions.{ConstrainNoOtherForm, ExcludeNoName, IsNamedByIssuer, IsSignedByIssuer, PermitNames}
 use Rattle.path.specs.Query.{Accepts}
 use Rattle.path.specs.Reason.{reason_rank}
 use Rattle.path_issuers.specs.Search.{Search, HasNoValid, path_down_to}
-use Rattle.path_issuers.specs.Factors.{PermitNames, ExcludeNoName, ConstrainNoOtherForm, HoldsOfNamed, AllowsLength, Lacks}
+use Rattle.path_issuers.specs.Factors.{HoldsOfNamed, AllowsLength, Lacks}
 use Rattle.path_issuers.specs.Asking.{count_pairs}
 use Rattle.path_search.specs.Answer.{HasRightTails}
 use Rattle.path_search.specs.Collecting.{IsFurthest}
@@ -65,9 +65,9 @@ MeetsAbove Signed moment c below Signature = Signed
 MeetsAbove Signed moment c below NotYet = HasBegun c moment
 MeetsAbove Signed moment c below Expired = HasNotExpired c moment
 MeetsAbove Signed moment c below Issuer = Unit {0}
-MeetsAbove Signed moment c below NotPermitted = HoldsOfNamed (PermitNames c.extensions.name_constraints) below
-MeetsAbove Signed moment c below Excluded = HoldsOfNamed (ExcludeNoName c.extensions.name_constraints) below
-MeetsAbove Signed moment c below ConstraintForm = HoldsOfNamed (ConstrainNoOtherForm c.extensions.name_constraints) below
+MeetsAbove Signed moment c below NotPermitted = HoldsOfNamed (PermitNames c) below
+MeetsAbove Signed moment c below Excluded = HoldsOfNamed (ExcludeNoName c) below
+MeetsAbove Signed moment c below ConstraintForm = HoldsOfNamed (ConstrainNoOtherForm c) below
 MeetsAbove Signed moment c below NotCa = IsCa c
 MeetsAbove Signed moment c below PathLength = AllowsLength c below
 MeetsAbove Signed moment c below KeyCertSign = MaySignCertificates c

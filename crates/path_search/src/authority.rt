@@ -5,7 +5,8 @@ ghost use Rattle.std.specs.List.{AllByRecursion};
 ghost use Rattle.cert.specs.Certificate.{seen_certificate};
 ghost use Rattle.path_conditions.specs.Constraints.{HasNoProcessed};
 ghost use Rattle.path_search.specs.Authority.{AdmitNamesIn, AdmitNamesOfOther, FitsAbove, seen_above, seen_tail};
-ghost use Rattle.path_issuers.specs.Factors.{AdmitNames, AdmitNamesBelow, AllowsLength, ConstrainNoOtherForm, ExcludeNoName, HoldsOfNamed, IsRightAbove, PermitNames};
+ghost use Rattle.path.specs.Conditions.{ConstrainNoOtherForm, ExcludeNoName, PermitNames};
+ghost use Rattle.path_issuers.specs.Factors.{AdmitNames, AdmitNamesBelow, AllowsLength, HoldsOfNamed, IsRightAbove};
 
 use crate::tail::Tail;
 use cert::Certificate;
@@ -39,7 +40,6 @@ pub struct Authority<'p, 'c> {
 impl<'p, 'c> Model for Authority<'p, 'c> {
     ghost use Rattle.std.specs.Coded.{codes};
     ghost use Rattle.cert.specs.Certificate.{Certificate, seen_certificate};
-    ghost use Rattle.cert.specs.NameConstraints.{seen_name_constraints};
     ghost use Rattle.path_conditions.specs.Codes.{rdn_code};
     ghost use Rattle.path_conditions.specs.Constraints.{seen_constraints};
     ghost use Rattle.path_search.specs.Authority.{AnswersFor};
@@ -50,25 +50,23 @@ impl<'p, 'c> Model for Authority<'p, 'c> {
 
     ghost view = { λ a. seen_certificate a.certificate.now };
 
-    ghost invariant = { λ a. AnswersFor (seen_name_constraints a.certificate.now.extensions.name_constraints)
-        (seen_constraints a.constraints) a.forms };
+    ghost invariant = { λ a. AnswersFor (seen_certificate a.certificate.now) (seen_constraints a.constraints)
+        a.forms };
 }
 
 impl<'p, 'c> Authority<'p, 'c> {
-    /// Puts the name constraints of the certificate in order. Memory is taken only if it carries a subtree of a directory name, a DNS name
-    /// or an IP address.
+    /// Puts the name constraints of the certificate in order. Memory is taken only if it carries a subtree of a form that is processed.
     pub fn new(
         alloc: Global,
         certificate: &'p Certificate<'c>,
     ) -> Result<Authority<'p, 'c>, AllocError>
         ensures ok { IfOk result (λ authority. authority ≡ seen_certificate certificate.now) }
-        ensures calm { HasNoProcessed certificate.now.extensions.name_constraints → IsOk result }
+        ensures calm { HasNoProcessed certificate.now → IsOk result }
     {
-        let carried = &certificate.extensions.name_constraints;
         let mut constraints = Constraints::none(alloc);
-        constraints.narrow(alloc, carried)?;
+        constraints.narrow(alloc, certificate)?;
         let mut forms = FormSet::new();
-        forms.insert_forms_of(carried);
+        forms.insert_forms_of(&certificate.extensions.name_constraints);
         Ok(Authority {
             certificate,
             constraints,
@@ -78,34 +76,29 @@ impl<'p, 'c> Authority<'p, 'c> {
 
     /// Whether its permitted subtrees admit the names of the certificate (RFC 5280, 6.1.3 (b)).
     fn permits_names_of(&self, certificate: &Certificate<'_>) -> bool
-        ensures { IsTrue result
-            ↔ PermitNames self.now.extensions.name_constraints (seen_certificate certificate.now) }
+        ensures { IsTrue result ↔ PermitNames self.now (seen_certificate certificate.now) }
     {
         self.constraints.permits_names_of(certificate)
     }
 
     /// Whether its excluded subtrees do (RFC 5280, 6.1.3 (c)).
     fn excludes_no_name_of(&self, certificate: &Certificate<'_>) -> bool
-        ensures { IsTrue result
-            ↔ ExcludeNoName self.now.extensions.name_constraints
-            (seen_certificate certificate.now) }
+        ensures { IsTrue result ↔ ExcludeNoName self.now (seen_certificate certificate.now) }
     {
-        !self.constraints.excludes_name_of(certificate)
+        self.constraints.excludes_no_name_of(certificate)
     }
 
-    /// Whether it has no subtree of a form that is not processed and that one of the names has (RFC 5280, 4.2.1.10).
+    /// Whether it has no subtree of a form that is not processed and that one of the names has, nor one of URIs if one of these has no host
+    /// (RFC 5280, 4.2.1.10).
     fn constrains_no_other_form_of(&self, certificate: &Certificate<'_>) -> bool
-        ensures { IsTrue result
-            ↔ ConstrainNoOtherForm self.now.extensions.name_constraints
-            (seen_certificate certificate.now) }
+        ensures { IsTrue result ↔ ConstrainNoOtherForm self.now (seen_certificate certificate.now) }
     {
-        !self.forms.has_form_of_name_of(certificate)
+        !self.forms.has_form_of_name_of(certificate) && self.constraints.finds_hosts_of(certificate)
     }
 
     /// Whether its name constraints let the names of the certificate pass (RFC 5280, 6.1.3 (b), (c); 4.2.1.10).
     fn admits_names_of(&self, certificate: &Certificate<'_>) -> bool
-        ensures { IsTrue result
-            ↔ AdmitNames self.now.extensions.name_constraints (seen_certificate certificate.now) }
+        ensures { IsTrue result ↔ AdmitNames self.now (seen_certificate certificate.now) }
     {
         self.permits_names_of(certificate)
             && self.excludes_no_name_of(certificate)
@@ -114,8 +107,7 @@ impl<'p, 'c> Authority<'p, 'c> {
 
     /// The same in one respect alone.
     fn admits_names_in(&self, check: NameCheck, certificate: &Certificate<'_>) -> bool
-        ensures { IsTrue result ↔ AdmitNamesIn check self.now.extensions.name_constraints
-            (seen_certificate certificate.now) }
+        ensures { IsTrue result ↔ AdmitNamesIn check self.now (seen_certificate certificate.now) }
     {
         match check {
             NameCheck::Each => self.admits_names_of(certificate),
@@ -129,8 +121,7 @@ impl<'p, 'c> Authority<'p, 'c> {
     /// comparing subject and issuer costs more.
     fn admits_names_above(&self, check: NameCheck, tail: &Tail<'_, '_>) -> bool
         ensures { IsTrue result
-            ↔ AllByRecursion (AdmitNamesOfOther check self.now.extensions.name_constraints)
-            (seen_above tail.now) }
+            ↔ AllByRecursion (AdmitNamesOfOther check self.now) (seen_above tail.now) }
     {
         for place in tail.above {
             let other = tail.at(*place);
@@ -143,17 +134,14 @@ impl<'p, 'c> Authority<'p, 'c> {
 
     /// Whether they let the names of the target pass in one respect, and of the certificates above it that are not self-issued.
     pub(crate) fn passes_names_below(&self, check: NameCheck, tail: &Tail<'_, '_>) -> bool
-        ensures { IsTrue result
-            ↔ HoldsOfNamed (AdmitNamesIn check self.now.extensions.name_constraints)
-            (seen_tail tail.now) }
+        ensures { IsTrue result ↔ HoldsOfNamed (AdmitNamesIn check self.now) (seen_tail tail.now) }
     {
         self.admits_names_in(check, tail.target) && self.admits_names_above(check, tail)
     }
 
     /// The same in each respect.
     pub fn admits_names_below(&self, tail: &Tail<'_, '_>) -> bool
-        ensures { IsTrue result
-            ↔ AdmitNamesBelow self.now.extensions.name_constraints (seen_tail tail.now) }
+        ensures { IsTrue result ↔ AdmitNamesBelow self.now (seen_tail tail.now) }
     {
         self.passes_names_below(NameCheck::Each, tail)
     }

@@ -7,6 +7,7 @@ use Rattle.cert.specs.Extensions.{Extensions, no_extensions}
 use Rattle.cert.specs.Place.{Place}
 use Rattle.cert.specs.AlgorithmIdentifier.{AlgorithmIdentifier}
 use Rattle.cert.specs.Certificate.{Certificate}
+use Rattle.cert.specs.CertificateHosts.{no_hosts}
 use Rattle.statements_facts.specs.declared.scope.Scope.TheVariants as Scope
 use Rattle.statements_facts.specs.declared.single.Status.TheVariants as said
 use Rattle.statements_facts.specs.Fact.{Fact}
@@ -43,6 +44,7 @@ plain key issuer serial extensions = record {
   extensions = extensions;
   signature = record { value = nowhere; octets = [] };
   points = [];
+  hosts = no_hosts;
 }
 
 -- the anchor R, 82, and below it T, 84

@@ -12,7 +12,7 @@ use Rattle.relying_agreement.specs.Link.{links_from, links_of}
 use Rattle.relying_questions.specs.declared.question.SignatureQuestion.{SignatureQuestion}
 use Rattle.relying_questions.specs.declared.part.WhichText.TheVariants as source
 use Rattle.relying_questions.specs.Places.{Texts, AllInTexts, AreInTexts, HasParts, KeepsInTexts, LinkStands, StatementStands}
-use Rattle.relying_questions.specs.Places.{StatementsStand, WasReadButForPoints, WereRead, WereStatementsRead, statement_text, texts_at, texts_in}
+use Rattle.relying_questions.specs.Places.{StatementsStand, WasReadInSomeProfile, WereRead, WereStatementsRead, statement_text, texts_at, texts_in}
 use Rattle.relying_questions.proofs.Standing.{has_parts, list_stands, response_stands}
 
 -- one more
@@ -46,12 +46,12 @@ abbrev TextsFrom : Texts → ℕ → List Certificate → Type 0
 TextsFrom texts n [] = Unit {0}
 TextsFrom texts n (c ∷ path) = (texts (source.Certificate n) ≡ c.octets) × TextsFrom texts (suc n) path
 
-pub placed : (text : List ℕ) (c : Certificate) → text ≡ c.octets → WasReadButForPoints c → HasParts text c
+pub placed : (text : List ℕ) (c : Certificate) → text ≡ c.octets → WasReadInSomeProfile c → HasParts text c
 placed text c is read = subst (λ t. HasParts t c) (sym is) (has_parts c read)
 
 links_stand : (texts : Texts) (n : ℕ) (issuer : Certificate) (path : List Certificate) → texts (source.Certificate n) ≡ issuer.octets
-    → WasReadButForPoints issuer
-    → TextsFrom texts (suc n) path → AllByRecursion WasReadButForPoints path → AllByRecursion (LinkStands texts) (links_from (suc n) issuer path)
+    → WasReadInSomeProfile issuer
+    → TextsFrom texts (suc n) path → AllByRecursion WasReadInSomeProfile path → AllByRecursion (LinkStands texts) (links_from (suc n) issuer path)
 links_stand texts n issuer [] text read all were = tt
 links_stand texts n issuer (c ∷ path) text read all were =
     let earlier : suc n - 1 ≡ n = omega arith in (

@@ -9,7 +9,7 @@ use Rattle.cert.specs.Certificate.{Certificate}
 use Rattle.path_issuers.specs.Links.{certificate_at}
 use Rattle.path_issuers.specs.Search.{Search}
 use Rattle.relying_questions.specs.Issuers.{text_at}
-use Rattle.relying_questions.specs.Places.{HasParts, SearchStands, Texts, WasReadButForPoints}
+use Rattle.relying_questions.specs.Places.{HasParts, SearchStands, Texts, WasReadInSomeProfile}
 use Rattle.relying_questions.specs.Places.{WereReadForSearch, certificate_text, certificates_of, texts_searched}
 use Rattle.relying_questions.proofs.Kept.{placed}
 
@@ -20,7 +20,7 @@ numbered s octets n c were within is =
     subst (HasParts (certificate_text (texts_searched s octets) n)) is
     (placed (certificate_text (texts_searched s octets) n) (get_or (certificates_of s) n s.target)
     (get_or-map (λ (one : Certificate). one.octets) (certificates_of s) n s.target [] within)
-    (All-from_recursion WasReadButForPoints (certificates_of s) were n s.target within))
+    (All-from_recursion WasReadInSomeProfile (certificates_of s) were n s.target within))
 
 pub search_stands : (s : Search) (octets : List (List ℕ)) → WereReadForSearch s → SearchStands (texts_searched s octets) s
 search_stands s octets were =

@@ -18,7 +18,7 @@ use Rattle.statements_crl.specs.CertificateList.{CertificateList}
 use Rattle.statements_crl.specs.ListForms.{IsCertificateListUnder}
 use Rattle.statements_ocsp.specs.OcspResponse.{OcspResponse}
 use Rattle.statements_ocsp.specs.ResponseForms.{AreCerts, IsOcspResponse}
-use Rattle.relying_questions.specs.Places.{IsPlaceIn, ListStands, ResponseStands, WasReadButForPoints, bits_at, HasParts}
+use Rattle.relying_questions.specs.Places.{IsPlaceIn, ListStands, ResponseStands, WasReadInSomeProfile, bits_at, HasParts}
 
 none_behind : (xs : List ℕ) → xs ≡ xs ++ []
 none_behind [] = refl
@@ -80,14 +80,14 @@ in_text text value c is whole =
       key_info = subst (IsPlaceIn text) (sym tbs.key_info_is.whole) fields.1.1.1.1.1.0.stands;
     }
 
--- one that was read from its octets has its parts there, whatever its points are
-pub has_parts : (c : Certificate) → WasReadButForPoints c → HasParts c.octets c
-has_parts c read =
-    let bare : Certificate = record c { points = [] } in
-    let is = (certificate_is_exact read.octets bare read.are_octets).0 read.reads in
-    let same : c.octets ≡ read.octets = ap (λ (d : Certificate). d.octets) is.layout.fields_are in
-    let parts = in_text read.octets (record { octets = read.octets; at = 0 }) bare is.layout (is_in_itself read.octets is.value is.der) in
-    subst (λ text. HasParts text c) (sym same) (record { signed = parts.signed; key_info = parts.key_info })
+-- one that was read from its octets has its parts there, in whichever profile
+pub has_parts : (c : Certificate) → WasReadInSomeProfile c → HasParts c.octets c
+has_parts c was =
+    let text : List ℕ = was.was_read.octets in
+    let is = (certificate_is_exact text was.read was.was_read.are_octets).0 was.was_read.reads in
+    let same : c.octets ≡ text = ap (λ (d : Certificate). d.octets) was.same ∙ ap (λ (d : Certificate). d.octets) is.layout.fields_are in
+    let parts = in_text text (record { octets = text; at = 0 }) was.read is.layout (is_in_itself text is.value is.der) in
+    subst (λ t. HasParts t c) (sym same) (subst (HasParts text) (sym was.same) (record { signed = parts.signed; key_info = parts.key_info }))
 
 -- octets of a part are octets
 front_octets : (part behind : List ℕ) → AreOctets (part ++ behind) → AreOctets part

@@ -76,13 +76,16 @@ AllInTexts texts asked = AllByRecursion (AreInTexts texts) asked
 abbrev pub KeepsInTexts : (Texts → Type 0) → List asked.SignatureQuestion → List asked.SignatureQuestion → Type 0
 KeepsInTexts Premise old new = (texts : Texts) → Premise texts → AllInTexts texts old → AllInTexts texts new
 
--- The certificate was read from its octets, in whichever profile: they differ in the names of points, and no question is about these.
-abbrev pub WasReadButForPoints : Certificate → Type 0
-WasReadButForPoints c = WasRead (record c { points = [] })
+-- The certificate was read from its octets, in whichever profile: they differ in constraints and in the names of points, and no question is
+-- about these.
+pub record WasReadInSomeProfile (c : Certificate) : Type 0 where
+  pub read : Certificate
+  pub was_read : WasRead read
+  pub same : c ≡ record read { extensions = c.extensions; points = c.points; hosts = c.hosts }
 
 -- the certificates of the query were read from their octets
 abbrev pub WereRead : Query → Type 0
-WereRead query = AllByRecursion WasReadButForPoints (query.anchor ∷ query.certificates)
+WereRead query = AllByRecursion WasReadInSomeProfile (query.anchor ∷ query.certificates)
 
 -- the statements were read from these octets, one by one, in whichever profile
 pub record WasStatementRead (octets : List ℕ) (read : Statement) : Type 0 where
@@ -101,7 +104,7 @@ StandWhereRead query statements asked =
 
 -- the certificates of the search were read from their octets
 abbrev pub WereReadForSearch : Search → Type 0
-WereReadForSearch s = AllByRecursion WasReadButForPoints (certificates_of s)
+WereReadForSearch s = AllByRecursion WasReadInSomeProfile (certificates_of s)
 
 -- the same of the certificates of a search
 abbrev pub StandWhereSearched : Search → List Statement → List asked.SignatureQuestion → Type 0

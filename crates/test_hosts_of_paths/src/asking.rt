@@ -3,8 +3,9 @@
 use crate::building::certificate;
 use cert::{CertFault, CertRule};
 use der_tree::EncodeFault;
-use path::{Outcome, QueryFault};
-use path_hosts::{QueryWithHosts, validate_with_hosts};
+use path::{Outcome, Query, QueryFault};
+use path_profiles::read_query_under;
+use statements_facts::Profile;
 use statements_parts::ReadingFault;
 use std::alloc::{AllocError, AllocFailed, Global};
 use vectors::NotationFault;
@@ -81,8 +82,12 @@ pub fn octets_of(alloc: Global, path: &str) -> Result<Vec<Vec<u8>>, RowFault> {
     Ok(all)
 }
 
-/// The question about the octets, of which the first are those of the anchor.
-pub fn question<'p>(alloc: Global, octets: &'p [Vec<u8>]) -> Result<QueryWithHosts<'p>, RowFault> {
+/// The question about the octets, of which the first are those of the anchor, in a profile.
+pub fn question_under<'p>(
+    alloc: Global,
+    profile: Profile,
+    octets: &'p [Vec<u8>],
+) -> Result<Query<'p>, RowFault> {
     let Some((anchor, path)) = octets.split_first() else {
         return Err(RowFault::Word);
     };
@@ -90,13 +95,18 @@ pub fn question<'p>(alloc: Global, octets: &'p [Vec<u8>]) -> Result<QueryWithHos
     for text in path {
         texts.push(text.as_slice())?;
     }
-    Ok(QueryWithHosts::read(alloc, anchor, &texts, MIDDLE, None)?)
+    Ok(read_query_under(alloc, profile, anchor, &texts, MIDDLE, None)?)
+}
+
+/// The same in the wide profile.
+pub fn question<'p>(alloc: Global, octets: &'p [Vec<u8>]) -> Result<Query<'p>, RowFault> {
+    question_under(alloc, Profile::Wide, octets)
 }
 
 fn outcome_of(alloc: Global, path: &str) -> Result<Outcome, RowFault> {
     let octets = octets_of(alloc, path)?;
     let query = question(alloc, &octets)?;
-    Ok(validate_with_hosts(alloc, &ToyVerifier, &query)?)
+    Ok(query.validate(alloc, &ToyVerifier)?)
 }
 
 /// A certificate that is refused before any is validated: its number, the number of the fault, and its place.

@@ -90,11 +90,12 @@ fn a_question_has_what_was_asked(rt: HostRuntime) -> Result<(), Fail> {
     let path = "ca(A,R){permit mail example.com} / ee(T,A){mail a@example.com}{mail b@example.com}";
     let octets = octets_of(rt.alloc(), path).map_err(|_| "octets")?;
     let query = question(rt.alloc(), &octets).map_err(|_| "a question")?;
-    let [above, below] = query.hosts() else {
+    let [above, below] = query.path.as_slice() else {
         return Err(Fail::from("two certificates"));
     };
     assert!(rt; above.hosts.permitted_mail.len() == 1 && above.hosts.mail.is_empty());
     assert!(rt; below.hosts.permitted_mail.is_empty() && below.hosts.mail.len() == 2);
-    assert!(rt; query.path().path.len() == 2);
+    let constraints = &above.extensions.name_constraints;
+    assert!(rt; constraints.permitted.is_empty() && constraints.excluded.is_empty());
     Ok(())
 }

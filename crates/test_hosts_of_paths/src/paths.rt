@@ -1,9 +1,8 @@
 //! Which certificate of a path is refused first, for its mail addresses, its URIs, or the path itself.
 
-use crate::asking::{RowFault, answer_to, octets_of};
-use cert::Certificate;
-use path::{Outcome, Reason, validate};
-use path_hosts::{host_certificates, hosts_outcome};
+use crate::asking::{RowFault, answer_to, octets_of, question_under};
+use path::{Outcome, Reason};
+use statements_facts::Profile;
 use std::alloc::Global;
 use std::test::Fail;
 use vectors_toy::ToyVerifier;
@@ -144,54 +143,19 @@ fn a_path_of_no_certificates_is_empty(rt: HostRuntime) -> Result<(), Fail> {
     Ok(())
 }
 
-fn read<'p>(alloc: Global, octets: &'p [Vec<u8>]) -> Result<Vec<Certificate<'p>>, RowFault> {
-    let mut read = Vec::new(alloc);
-    for text in octets {
-        let certificate = Certificate::read(alloc, text).map_err(|_| RowFault::Word)?;
-        read.push(certificate)?;
-    }
-    Ok(read)
-}
-
-/// What validation answers that does not process constraints on mail addresses and URIs.
-fn without_hosts(alloc: Global, path: &str) -> Result<Outcome, RowFault> {
+/// What is answered in the stated profile, which does not process constraints on mail addresses and URIs.
+fn stated(alloc: Global, path: &str) -> Result<Outcome, RowFault> {
     let octets = octets_of(alloc, path)?;
-    let certificates = read(alloc, &octets)?;
-    let Some((anchor, path)) = certificates.split_first() else {
-        return Err(RowFault::Word);
-    };
-    let moment = crate::asking::MIDDLE;
-    Ok(validate(alloc, &ToyVerifier, anchor, path, moment, None)?)
-}
-
-/// What the constraints on mail addresses and URIs alone say.
-fn hosts_alone(alloc: Global, path: &str) -> Result<Outcome, RowFault> {
-    let octets = octets_of(alloc, path)?;
-    let certificates = read(alloc, &octets)?;
-    let Some((_, path)) = certificates.split_first() else {
-        return Err(RowFault::Word);
-    };
-    let hosts = host_certificates(alloc, path).map_err(|_| RowFault::Word)?;
-    Ok(hosts_outcome(alloc, &hosts)?)
+    let query = question_under(alloc, Profile::Stated, &octets)?;
+    Ok(query.validate(alloc, &ToyVerifier)?)
 }
 
 const PERMITTED: &str = "ca(A,R){permit mail example.com} / ee(T,A){mail root@example.com}";
 
 #[test]
 fn who_does_not_ask_is_refused(rt: HostRuntime) -> Result<(), Fail> {
-    let refused = without_hosts(rt.alloc(), PERMITTED).map_err(|_| "an answer")?;
+    let refused = stated(rt.alloc(), PERMITTED).map_err(|_| "an answer")?;
     assert_eq!(rt; refused, Outcome::Bad(2, Reason::ConstraintForm));
-    Ok(())
-}
-
-#[test]
-fn the_path_itself_is_not_looked_at(rt: HostRuntime) -> Result<(), Fail> {
-    let forged = "ca(A,R){permit mail example.com} / ee(T,A){signed X}{mail a@example.com}";
-    let good = hosts_alone(rt.alloc(), forged).map_err(|_| "an answer")?;
-    assert_eq!(rt; good, Outcome::Good);
-    let other = "ca(A,R){permit mail example.com} / ee(T,A){signed X}{mail a@example.org}";
-    let refused = hosts_alone(rt.alloc(), other).map_err(|_| "an answer")?;
-    assert_eq!(rt; refused, Outcome::Bad(2, Reason::NotPermitted));
     Ok(())
 }
 

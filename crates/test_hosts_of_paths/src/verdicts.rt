@@ -2,7 +2,7 @@
 
 use crate::asking::{RowFault, octets_of, question};
 use relying_agreement::Verdict;
-use relying_hosts::verdict_with_hosts;
+use relying_texts::verdict;
 use statements::Statement;
 use std::alloc::Global;
 use std::test::Fail;
@@ -42,7 +42,7 @@ fn verdict_on(alloc: Global, lists: &str, path: &str) -> Result<Verdict, RowFaul
     let query = question(alloc, &octets)?;
     let lists = lists_of(alloc, lists)?;
     let statements = statements_in(alloc, &lists)?;
-    Ok(verdict_with_hosts(alloc, &ToyVerifier, &query, &statements)?)
+    Ok(verdict(alloc, &ToyVerifier, &query, &statements)?)
 }
 
 fn text_of(alloc: Global, verdict: Verdict) -> Result<String, RowFault> {

@@ -13,6 +13,7 @@ use Rattle.cert.specs.AlgorithmIdentifier.{AlgorithmIdentifier}
 use Rattle.cert.specs.SubjectPublicKeyInfo.{SubjectPublicKeyInfo}
 use Rattle.cert.specs.Extensions.{no_extensions}
 use Rattle.cert.specs.Certificate.{Certificate, certificate}
+use Rattle.cert.specs.CertificateHosts.{no_hosts}
 use Rattle.test_premises.specs.Octets.{anchor_der, anchor_tbs, anchor_signature, target_der, target_tbs, target_signature, name_r, name_t, algorithm, key_r, key_t}
 use Rattle.test_premises.proofs.OnLiterals.{on_literals}
 use Rattle.test_premises.proofs.Trees.{anchor_whole, target_whole, ca_octets, ca_whole}
@@ -48,6 +49,7 @@ root = record {
   extensions = record no_extensions { basic_constraints = Some (record { ca = true; path_length = None }) };
   signature = record { value = text_at anchor_signature 118; octets = drop 3 anchor_signature };
   points = [];
+  hosts = no_hosts;
 }
 
 abbrev pub leaf : Certificate
@@ -64,6 +66,7 @@ leaf = record {
   extensions = no_extensions;
   signature = record { value = text_at target_signature 97; octets = drop 3 target_signature };
   points = [];
+  hosts = no_hosts;
 }
 
 pub leaf_is_read : certificate target_der ≡ Ok leaf

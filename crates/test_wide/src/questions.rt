@@ -2,7 +2,7 @@
 
 use cert::Certificate;
 use path::{Query, QueryFault};
-use path_points::read_query_under;
+use path_profiles::read_query_under;
 use statements_facts::Profile;
 use std::alloc::{AllocError, AllocFailed, Global};
 use std::test::Fail;

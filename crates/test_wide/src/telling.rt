@@ -1,6 +1,6 @@
 //! Parties of a profile, and the lists that reach them. `None` is answered if there is no memory.
 
-use path_points::read_query_under;
+use path_profiles::read_query_under;
 use relying::{DeliverAnswer, Event, Fault, Node, Verdict};
 use sqlite::{Connection, Files, Options};
 use sqlite_disk::{Disk, Memory};

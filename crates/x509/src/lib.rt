@@ -122,20 +122,16 @@ pub mod search {
 
 /// Constraints on mail addresses and on the hosts of URIs (RFC 5280, 4.2.1.10), for who asks for them.
 ///
-/// `validate` refuses a path where such a constraint meets a name of its form. `validate_with_hosts` processes them: `QueryWithHosts` reads
-/// the certificates with what they say of mail addresses and URIs. A party is asked for its verdict on `QueryWithHosts::path`, the path
-/// without these constraints, and `add_hosts` adds them to its answer; `verdict_with_hosts` does both by statements at hand. `hosts_outcome`
-/// looks at these constraints alone.
+/// In `Profile::Stated` a path is refused where such a constraint meets a name of its form. What `points::read_query_under` and
+/// `points::read_certificate_under` read in `Profile::Wide` carries its mail addresses, hosts and constraints on them as `hosts`, and every
+/// call that validates or searches then processes them. `take_hosts` gives them to a certificate that was read.
 pub mod hosts {
-    pub use cert_hosts::{CertificateHosts, certificate_hosts_laws};
+    pub use cert::CertificateHosts;
+    pub use cert_hosts::{certificate_hosts_laws, read_hosts, take_hosts};
     pub use names_hosts::{
         HostBase, MailBase, MailName, host_laws, host_of_uri, is_host, mail_laws, uri_laws,
     };
-    pub use path_hosts::{
-        HostCertificate, QueryWithHosts, host_certificates, hosts_apart, hosts_outcome, join_hosts,
-        outcome_with_hosts_laws, validate_with_hosts,
-    };
-    pub use relying_hosts::{add_hosts, join_verdict, verdict_with_hosts, verdict_with_hosts_laws};
+    pub use path_host_constraints::{HostConstraints, host_constraints_laws};
 }
 
 /// Certificate policies (RFC 5280, 4.2.1.4, 4.2.1.5, 4.2.1.11, 4.2.1.14 and 6.1; RFC 9618), for who asks for them.
@@ -212,8 +208,8 @@ pub mod at_hand {
 /// All other calls read in `Profile::Stated`: a list with a point is refused, and the points of certificates are not read. A caller that wants
 /// such lists asks for `Profile::Wide`, in three steps.
 ///
-/// 1. Read the path by `read_query_under`: each of its certificates then has the names of its points. For a search, read each certificate
-///    of the bag, and the target, by `read_certificate_under`.
+/// 1. Read the path by `read_query_under`: each of its certificates then has the names of its points (and its `hosts`). For a search, read
+///    each certificate of the bag, and the target, by `read_certificate_under`.
 /// 2. Read the statements by `read_statements_under`. A party that keeps a store makes it by `Store::make_under` or `Store::create_under`
 ///    instead: then [`Node::deliver`](crate::Node::deliver) reads in the profile of the store.
 /// 3. Ask for the verdict as ever. It looks for the lists at the points of each certificate, beside those of all certificates of its issuer.
@@ -230,7 +226,7 @@ pub mod points {
         DistributionPoint, DistributionPoints, GeneralNames, PointName, point_layout_laws,
         point_reading_laws, take_points,
     };
-    pub use path_points::{
+    pub use path_profiles::{
         certificate_profile_laws, query_profile_laws, read_certificate_under, read_query_under,
     };
     pub use relying::read_statement_under;

@@ -2,7 +2,7 @@ use Rattle.std.proofs.Common.{◌≡◌, ◌++◌, ◌∙◌, Bor, List, Ok, len
 use Rattle.asn.specs.DerLaws.{AreOctets}
 use Rattle.cert.specs.Certificate.{seen_certificate}
 use Rattle.cert.specs.Fault.{FailsUnlessFull}
-use Rattle.path_points.specs.InProfile.{certificate_under}
+use Rattle.path_profiles.specs.InProfile.{certificate_under}
 use Rattle.capi_values.specs.Refusal.{IsFirstRefused}
 use Rattle.capi_values.specs.Texts.{all_seen, octets_of_texts, readings_under}
 use Rattle.capi_values.proofs.Gathering.{one_fits, one_read, one_refused, tells_refused}

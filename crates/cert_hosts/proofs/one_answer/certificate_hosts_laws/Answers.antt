@@ -1,5 +1,6 @@
 use Rattle.cert_hosts.proofs.OneAnswer.{one_answer, either, one_refusal}
 use Rattle.cert_hosts.proofs.WalkedHosts.{hosts_are_exact, refusals_are_exact}
+use Rattle.cert_hosts.proofs.FaultPlaces.{fault_is_within}
 use Rattle.cert_hosts.proofs.one_answer.certificate_hosts_laws.Goals as goal
 
 pub returns : goal.returns
@@ -9,4 +10,5 @@ returns c = record {
   refusal = one_refusal;
   exact = hosts_are_exact;
   exact_refusal = refusals_are_exact;
+  fault = fault_is_within;
 }

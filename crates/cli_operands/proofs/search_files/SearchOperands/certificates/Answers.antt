@@ -1,7 +1,7 @@
 use Rattle.std.proofs.Common.{inl, inr, ap, map, sym, ◌∙◌}
 use Rattle.std.proofs.lemmas.Result.{err_from_is_err_and}
 use Rattle.cert.specs.Certificate.{seen_certificate}
-use Rattle.path_points.specs.InProfile.{certificate_under}
+use Rattle.path_profiles.specs.InProfile.{certificate_under}
 use Rattle.cli_operands.proofs.search_files.SearchOperands.certificates.Goals as goal
 
 pub returns-in_err-anchors-clause-fails : goal.returns-in_err-anchors-clause-fails

@@ -1,15 +1,11 @@
-use Rattle.std.proofs.Common.{not, ap}
-use Rattle.path.proofs.Deciding.{met, unmet, processed_at}
+use Rattle.path.proofs.Deciding.{met, unmet}
 use Rattle.path.proofs.state.State.are_constraints_processed.Goals as goal
 
-pub returns-then-not-has_form_of_name_of : goal.returns-then-not-has_form_of_name_of
-returns-then-not-has_form_of_name_of g c =
-    met (not c.has_form_of_name_of.result)
-    (processed_at c.self.view_is _ _ _ _ c.self.invariant _ c.certificate.ensures c.has_form_of_name_of.result c.has_form_of_name_of.ensures)
-    (ap not c.if-not-has_form_of_name_of.true)
+pub returns-then-is_no_other_form_constrained : goal.returns-then-is_no_other_form_constrained
+returns-then-is_no_other_form_constrained g c =
+    met c.is_no_other_form_constrained.result c.is_no_other_form_constrained.ensures c.if-is_no_other_form_constrained.true
 
-pub returns-else-not-has_form_of_name_of : goal.returns-else-not-has_form_of_name_of
-returns-else-not-has_form_of_name_of g c =
-    unmet (not c.has_form_of_name_of.result) c.are_names_checked.result
-    (processed_at c.self.view_is _ _ _ _ c.self.invariant _ c.certificate.ensures c.has_form_of_name_of.result c.has_form_of_name_of.ensures)
-    (ap not c.if-not-has_form_of_name_of.false) c.are_names_checked.ensures
+pub returns-else-is_no_other_form_constrained : goal.returns-else-is_no_other_form_constrained
+returns-else-is_no_other_form_constrained g c =
+    unmet c.is_no_other_form_constrained.result c.are_names_checked.result c.is_no_other_form_constrained.ensures
+    c.if-is_no_other_form_constrained.false c.are_names_checked.ensures

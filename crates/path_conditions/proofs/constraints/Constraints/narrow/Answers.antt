@@ -1,4 +1,4 @@
-use Rattle.std.proofs.Common.{◌∙◌}
+use Rattle.std.proofs.Common.{◌∙◌, refl}
 use Rattle.std.proofs.lemmas.Bool.{false≢true}
 use Rattle.path_conditions.proofs.NarrowedLists.{no_directory, no_dns, no_ip, constraints_are, excluded_are}
 use Rattle.path_conditions.proofs.constraints.Constraints.narrow.Goals as goal
@@ -18,8 +18,12 @@ returns-clause-ok c =
     let dns = rw c.deref-2.ensures.value at c.in_ok-dns.ensures.value in
     let ip = rw c.deref-3.ensures.value at c.in_ok-ip.ensures.value in
     let excluded = rw c.deref-4.ensures.value at c.in_ok-exclude.ensures.ok in
-    constraints_are _ _
-    (c.replace.ensures ∙ directory)
-    (c.replace-2.ensures ∙ dns)
-    (c.replace-3.ensures ∙ ip)
-    (excluded_are _ _ _ excluded)
+    record {
+      lists = constraints_are _ _
+          (c.replace.ensures ∙ directory)
+          (c.replace-2.ensures ∙ dns)
+          (c.replace-3.ensures ∙ ip)
+          (excluded_are _ _ _ excluded)
+          refl;
+      hosts = c.in_ok-exclude.ensures.narrowed;
+    }

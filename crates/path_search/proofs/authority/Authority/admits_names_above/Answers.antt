@@ -8,7 +8,7 @@ use Rattle.path_search.proofs.authority.Authority.admits_names_above.Goals as go
 
 pub returns-then-not-self_issued : goal.returns-then-not-self_issued
 returns-then-not-self_issued c =
-    let P : Certificate → Type 0 = AdmitNamesOfOther c.args.check c.args.self.now.extensions.name_constraints in (
+    let P : Certificate → Type 0 = AdmitNamesOfOther c.args.check c.args.self.now in (
       λ t. absurd (false≢true t),
       λ all.
           let other = subst P (sym c.at-other.ensures)
@@ -20,7 +20,7 @@ returns-then-not-self_issued c =
 
 pub loop-place-preserved : goal.loop-place-preserved
 loop-place-preserved c =
-    let P : Certificate → Type 0 = AdmitNamesOfOther c.args.check c.args.self.now.extensions.name_constraints in
+    let P : Certificate → Type 0 = AdmitNamesOfOther c.args.check c.args.self.now in
     one_more P (seen_certificate c.args.tail.now.target.now) (map seen_certificate c.args.tail.now.bag.now) c.args.tail.now.above.now
     c.loop-place.place-index c.loop-place.invariant
     (subst P c.at-other.ensures (elim c.else-not-admits_names_in.branch [
@@ -32,7 +32,7 @@ loop-place-preserved c =
 pub returns : goal.returns
 returns c = (
   λ t.
-      all_places (AdmitNamesOfOther c.args.check c.args.self.now.extensions.name_constraints) (seen_certificate c.args.tail.now.target.now)
+      all_places (AdmitNamesOfOther c.args.check c.args.self.now) (seen_certificate c.args.tail.now.target.now)
       (map seen_certificate c.args.tail.now.bag.now) c.args.tail.now.above.now
       (λ i h. c.loop-place.invariant i (omega (arith, c.loop-place-test.false))),
   λ all. refl,

@@ -7,13 +7,13 @@ use Rattle.path_search.proofs.authority.Authority.passes_names_below.Goals as go
 pub returns-then-admits_names_in : goal.returns-then-admits_names_in
 returns-then-admits_names_in c =
     both_decide c.admits_names_in.result c.admits_names_above.result c.admits_names_in.ensures c.admits_names_above.ensures
-    (hold_below (AdmitNamesIn c.args.check c.args.self.now.extensions.name_constraints) (seen_certificate c.args.tail.now.target.now)
+    (hold_below (AdmitNamesIn c.args.check c.args.self.now) (seen_certificate c.args.tail.now.target.now)
     (map seen_certificate c.args.tail.now.bag.now) c.args.tail.now.above.now)
     c.if-admits_names_in.true
 
 pub returns-else-admits_names_in : goal.returns-else-admits_names_in
 returns-else-admits_names_in c =
     first_decides c.admits_names_in.result c.admits_names_in.ensures
-    (hold_below (AdmitNamesIn c.args.check c.args.self.now.extensions.name_constraints) (seen_certificate c.args.tail.now.target.now)
+    (hold_below (AdmitNamesIn c.args.check c.args.self.now) (seen_certificate c.args.tail.now.target.now)
     (map seen_certificate c.args.tail.now.bag.now) c.args.tail.now.above.now)
     c.if-admits_names_in.false

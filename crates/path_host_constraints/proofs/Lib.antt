@@ -1,0 +1,6 @@
+mod Narrowed
+mod Loops
+mod MailBases
+mod HostBases
+mod Narrowing
+pub mod Laws

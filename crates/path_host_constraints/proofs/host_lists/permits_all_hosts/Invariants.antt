@@ -1,0 +1,7 @@
+use Rattle.std.proofs.Common.{map, take}
+use Rattle.std.specs.Option.{option_copied}
+use Rattle.path_host_constraints.specs.HostLists.{PermitsAllHosts}
+use Rattle.path_host_constraints.proofs.host_lists.permits_all_hosts.Given as goal
+
+abbrev pub invariant-loop-found : goal.invariant-loop-found
+invariant-loop-found l = PermitsAllHosts l.list (map option_copied (take l.found-index l.hosts))

@@ -1,9 +1,0 @@
-use Rattle.names_hosts.specs.Hosts.{host_names}
-use Rattle.path_hosts.proofs.Loops.{excluded_more}
-use Rattle.path_hosts.proofs.host_lists.exclude_hosts.Goals as goal
-
-pub returns : goal.returns
-returns c =
-    excluded_more host_names c.count_lasting-lasting.result c.args.indexes.now.items c.in_ok-joined.joined.items c.args.more.now c.extend_from_slice.new.self.items
-    c.in_ok-index.index c.truncate.new.self.items c.push.new.self.items
-    (rw c.deref-2.ensures.value at c.in_ok-joined.ensures) c.in_ok-extend_from_slice.ensures.items c.in_ok-index.ensures c.truncate.ensures.items c.in_ok-push.ensures.items

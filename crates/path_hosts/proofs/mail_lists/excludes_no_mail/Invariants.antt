@@ -1,8 +1,0 @@
-use Rattle.std.proofs.Common.{map, take}
-use Rattle.names_hosts.specs.Mail.{mail_text}
-use Rattle.path_hosts.specs.Lists.{members_of}
-use Rattle.path_hosts.specs.MailLists.{ExcludesNoMail}
-use Rattle.path_hosts.proofs.mail_lists.excludes_no_mail.Given as goal
-
-abbrev pub invariant-loop-name : goal.invariant-loop-name
-invariant-loop-name l = ExcludesNoMail (members_of l.indexes) (map mail_text (take l.name-index l.names))

@@ -1,3 +1,0 @@
-mod PointedCertificates
-mod Readings
-mod Profiles

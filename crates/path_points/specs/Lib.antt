@@ -1,7 +1,0 @@
-pub mod InProfile
-pub mod Reading
-pub use Rattle.cert.specs.Certificate
-pub use Rattle.cert.specs.Fault
-pub use Rattle.cert_points.specs.PointReading
-pub use Rattle.cert_points.specs.Published
-pub use Rattle.path.specs.Query

@@ -1,0 +1,4 @@
+mod WideCertificates
+mod Readings
+mod Profiles
+pub mod Laws
