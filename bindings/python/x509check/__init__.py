@@ -34,7 +34,7 @@ from ._report import report, report_on_two
 from ._verdicts import NotValid, Reason, Result, RevocationReason, Verdict, WhyNot, validate
 from .signatures import Judgement, JudgeMissing, Opinion, Policy, judge, judge_all, opinions
 
-__version__ = "0.10.0"
+__version__ = "1.0.0"
 
 __all__ = [
     "Answer", "BadReference", "Certificate", "Delivery", "Extensions", "Fault", "Garbled", "Identity", "JudgeMissing", "Judgement", "Kind", "LibraryMissing", "Limits",
