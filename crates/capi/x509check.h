@@ -101,8 +101,9 @@ struct x509check_text {
  *
  * In the stated profile a list whose issuingDistributionPoint names a point is refused, with the fault 48. In the wide one it is taken, and
  * speaks of certificates whose cRLDistributionPoints name that point (RFC 5280, 6.3.3); a certificate in which these are malformed is
- * refused, with the fault 29. In the wide one a response also counts if its hashes are by SHA-256 (RFC 6960, 4.1.1). Questions are to be
- * asked in the profile of the verdict. */
+ * refused, with the fault 29. In the wide one a response also counts if its hashes are by SHA-256 (RFC 6960, 4.1.1), and name constraints on
+ * mail addresses and on hosts of URIs are processed (RFC 5280, 4.2.1.10); malformed ones are refused, with the faults 18 and 19. Questions
+ * are to be asked in the profile of the verdict. */
 struct x509check_query {
     struct x509check_text anchor;      /* the DER of a certificate, of which only the name and the key are used */
     const struct x509check_text *path; /* the certificates below it, each in DER, to the one in question */

@@ -365,7 +365,7 @@ class Party:
         """The verdict on a path, by what is believed and what the store holds: no signature is judged. The chain goes from the anchor's
         side to the certificate in question, as for `validate`; moment and purpose are as there too.
 
-        Raises a Fault if a certificate cannot be read, and Refused if in the wide profile its cRLDistributionPoints cannot.
+        Raises a Fault if a certificate cannot be read, and Refused if it can in the stated profile alone, and the store is wide.
         """
         certificates = [_named(one) for one in (anchor, *listed("chain", chain, _MOST))]
         if not 1 < len(certificates) <= _MOST:
@@ -384,7 +384,7 @@ class Party:
         and what the store holds: no signature is judged. Path, verdict and name are as for `x509check.validate_peer`; `Result.why_not` is
         None.
 
-        Raises a Fault if a certificate cannot be read, and Refused if in the wide profile its cRLDistributionPoints cannot.
+        Raises a Fault if a certificate cannot be read, and Refused if it can in the stated profile alone, and the store is wide.
         """
         tops, read = ([_named(one) for one in listed(what, many)] for what, many in (("anchors", anchors), ("others", others)))
         last = _named(target)

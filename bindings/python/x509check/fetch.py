@@ -226,8 +226,8 @@ class Fetcher:
         one has is taken. `lists`, `responses` and `issuers` say what is asked for. `now` is the moment at which the party is asked, so that
         a response counts that was signed meanwhile.
 
-        Raises a Fault if a certificate cannot be read, Refused if in the wide profile its cRLDistributionPoints cannot, JudgeMissing, and
-        other PartyErrors.
+        Raises a Fault if a certificate cannot be read, Refused if it can in the stated profile alone, and the store is wide, JudgeMissing,
+        and other PartyErrors.
         """
         seconds_of(at)  # whether it is a moment
         return _Run(self, [Certificate.from_der(one) for one in sent_by(certificates)],
@@ -307,7 +307,7 @@ class _Run:
         self._issuers.append(issuer)
         try:
             self._verdict()
-        except Refused as refusal:  # in the wide profile, for its cRLDistributionPoints
+        except Refused as refusal:  # in the wide profile alone
             self._issuers.pop()
             self._tell(Outcome.REFUSED, Kind.CERTIFICATE, url, certificate, str(refusal), refused=refusal)
             return False

@@ -26,7 +26,8 @@ pub enum Profile {
     #[default]
     Stated,
     /// Such a list is taken too, and speaks of the certificates whose cRLDistributionPoints name its point. A certificate in which these are
-    /// malformed cannot be read, unless it is an anchor. Responses count by SHA-256 too.
+    /// malformed cannot be read, unless it is an anchor. Responses count by SHA-256 too. Name constraints on mail addresses and on hosts of
+    /// URIs are processed, and malformed ones cannot be read (RFC 5280, 4.2.1.10).
     Wide,
 }
 
