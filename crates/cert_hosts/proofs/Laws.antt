@@ -2,3 +2,4 @@
 pub use Rattle.cert_hosts.proofs.OneAnswer.{one_answer, either, one_refusal}
 pub use Rattle.cert_hosts.proofs.WalkedHosts.{hosts_are_exact, refusals_are_exact}
 pub use Rattle.cert_hosts.proofs.FaultPlaces.{fault_is_within}
+pub use Rattle.cert_hosts.proofs.OwnHosts.{hosts_are_its_own}

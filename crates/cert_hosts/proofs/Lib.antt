@@ -4,3 +4,4 @@ mod WalkedHosts
 pub mod Laws
 mod OtherConstraints
 mod FaultPlaces
+mod OwnHosts

@@ -3,6 +3,7 @@ pub mod SaidValues
 pub mod Reading
 pub mod HostsWalk
 pub mod Taken
+pub mod OwnHosts
 pub mod Laws
 pub use Rattle.asn.specs.Place
 pub use Rattle.cert.specs.Certificate

@@ -37,7 +37,7 @@ abbrev pub HoldsCertificateUnder : Profile → Holding → List ℕ → Certific
 HoldsCertificateUnder profile holds file read =
     (octets : List ℕ) × holds.has file (Some octets) × (certificate_under profile octets ≡ Ok read)
 
--- of one whose points do not count
+-- the same in the stated profile
 abbrev pub HoldsCertificate : Holding → List ℕ → Certificate → Type 0
 HoldsCertificate = HoldsCertificateUnder Stated
 
@@ -64,7 +64,7 @@ IsNoCertificateUnder profile holds file (NoCertificate named rule at) =
     × ((octets : List ℕ) × holds.has file (Some octets) × (certificate_under profile octets ≡ Err (rule, at)))
 IsNoCertificateUnder profile holds file failure = IsUnread holds file failure
 
--- of one whose points do not count
+-- the same in the stated profile
 abbrev pub IsNoCertificate : Holding → List ℕ → Failure → Type 0
 IsNoCertificate = IsNoCertificateUnder Stated
 

@@ -1,10 +1,10 @@
 -- Loops over bases and names, one more at a time.
-use Rattle.std.proofs.Common.{◌≡◌, ◌≢◌, ◌==◌, ◌⊎◌, ◌↔◌, ◌||◌, Bool, true, false, ◌<◌, ◌≤◌, ◌+◌, ◌-◌, ℕ, zero, suc, List, append_assoc, append-nil, [], ◌∷◌, ◌++◌, length, map, take, drop, get_or, Option, arith, refl, sym, ap, subst, ◌∙◌, inl, inr, Contains}
+use Rattle.std.proofs.Common.{◌≡◌, ◌≢◌, ◌==◌, ◌⊎◌, ◌↔◌, ◌||◌, Bool, true, false, ◌<◌, ◌≤◌, ◌+◌, ◌-◌, ℕ, zero, suc, List, append_assoc, append-nil, [], ◌∷◌, ◌++◌, length, map, take, drop, get_or, Option, None, Some, arith, refl, sym, ap, subst, ◌∙◌, inl, inr, Contains}
 use Rattle.std.proofs.lemmas.List.{get_or_default, map_more, map-append, take-append-drop, take_all, drop_all, length-drop, length-map, length-append}
 use Rattle.std.proofs.lemmas.List.Elements.{Contains-append_cases, Contains-append_right}
 use Rattle.std.proofs.lemmas.Bool.{false≢true}
 use Rattle.std.proofs.Math.Seq.{drop-cons}
-use Rattle.path_host_constraints.specs.Lists.{Has, Selects, TakesIf, members_of}
+use Rattle.path_host_constraints.specs.Lists.{Has, Selects, TakesIf, left_of, changed, size_of, members_of}
 use Rattle.path_host_constraints.specs.Indexes.{with_joined}
 use Rattle.path_host_constraints.specs.declared.indexes.Joined.{Joined}
 use Rattle.path_host_constraints.proofs.Narrowed.{only, one_selected, one_passed_over, any_left, any_right, any_cases, in_none, Nests}
@@ -157,6 +157,12 @@ joined_fewer view bases carried kept entering held kept_index index held_is kept
     let e : length (map view entering) ≡ length entering = length-map entering view in
     let i : length index ≡ length (map view entering) + length kept_index = ap length index_is ∙ length-append (map view entering) kept_index in
     omega arith
+
+-- a list that is held is no longer than what its change leaves
+pub size_after : {B : Type 0} (held : List B) (more : ℕ) (change : Option (List B)) → length (left_of held change) ≤ length held + more
+    → size_of (changed (Some held) change) ≤ size_of (Some held) + more
+size_after held more None fewer = fewer
+size_after held more (Some list) fewer = fewer
 
 -- the index that joins what comes is put in place of those that do not last
 pub put_behind : {B : Type 0} (joined : Option (Joined (List B))) (held given room new : List (List B)) (more coming : List B)

@@ -98,6 +98,13 @@ module _ {X B : Type 0} (Among : X → B → Type 0) (Inside : B → B → Type 
         | inr new ↦ let both = any_only (λ b. Both within x b) base new in inr (held_has except base x (stays both.0) both.1)
       ]
 
+  -- a list whose bases all lie in others has just the names that both have
+  pub lying_in : (held carried : List B) → ((base : B) → Contains held base → Holds Inside carried base) → (x : X) → Has Among held x ↔ (Has Among held x × Has Among carried x)
+  lying_in held carried lie x = (
+    λ any. let f = found (λ b. Among x b) held any in (any, held_has carried f.item x (lie f.item f.within) f.has),
+    λ both. both.0,
+  )
+
   module _ (held carried kept entering : List B) (keeps : Selects Among Inside carried [] held kept) (enters : Selects Among Inside held kept carried entering) (x : X) where
     kept_both : Has Among kept x → Has Among held x × Has Among carried x
     kept_both any =

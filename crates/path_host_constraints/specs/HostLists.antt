@@ -15,6 +15,10 @@ TakesHostsIf within except base old new = TakesIf AreHostsInside within except b
 abbrev pub SelectsHosts : List HostNames → List HostNames → List HostNames → List HostNames → Type 0
 SelectsHosts within except list selected = Selects IsAmongHosts AreHostsInside within except list selected
 
+-- each base of a list is inside one of these
+abbrev pub HostsLieIn : List HostNames → List HostNames → Type 0
+HostsLieIn within bases = (base : HostNames) → Contains bases base → HoldsHosts within base
+
 -- a list has just the hosts that both lists have
 abbrev pub NarrowsHosts : List HostNames → List HostNames → List HostNames → Type 0
 NarrowsHosts held carried list = (host : List ℕ) → HasHost list host ↔ (HasHost held host × HasHost carried host)

@@ -30,6 +30,11 @@ abbrev pub PermitsIn : {X B : Type 0} → (X → B → Type 0) → Option (List 
 PermitsIn Among None x = Unit {0}
 PermitsIn Among (Some list) x = Has Among list x
 
+-- what is left of a list: a new one, or the list itself where there is none
+abbrev pub left_of : {L : Type 0} → L → Option L → L
+left_of held None = held
+left_of held (Some list) = list
+
 -- the list behind a certificate: a new one, or the old one where there is none
 abbrev pub changed : {L : Type 0} → Option L → Option L → Option L
 changed old None = old

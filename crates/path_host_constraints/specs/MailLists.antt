@@ -15,6 +15,10 @@ TakesMailIf within except base old new = TakesIf IsMailInside within except base
 abbrev pub SelectsMail : List MailNames → List MailNames → List MailNames → List MailNames → Type 0
 SelectsMail within except list selected = Selects IsAmongMail IsMailInside within except list selected
 
+-- each base of a list is inside one of these
+abbrev pub MailLieIn : List MailNames → List MailNames → Type 0
+MailLieIn within bases = (base : MailNames) → Contains bases base → HoldsMail within base
+
 -- a list has just the mail addresses that both lists have
 abbrev pub NarrowsMail : List MailNames → List MailNames → List MailNames → Type 0
 NarrowsMail held carried list = (name : MailText) → HasMail list name ↔ (HasMail held name × HasMail carried name)

@@ -4,8 +4,8 @@ ghost use Rattle.std.specs.Prelude.{◌≡◌, ◌↔◌, ◌≤◌, ◌<◌, �
 ghost use Rattle.std.specs.Option.{option_copied};
 ghost use Rattle.names_hosts.specs.Hosts.{host_names};
 ghost use Rattle.names_hosts_order.specs.HostLists.{HasHost};
-ghost use Rattle.path_host_constraints.specs.HostLists.{Enters, TakesHostsIf, SelectsHosts, NarrowsHosts, PermitsHostIn, PermitsFound, PermitsAllHosts, IsNarrowedHosts, ExcludesFound, ExcludesNoHost, HasEachHost};
-ghost use Rattle.path_host_constraints.specs.Lists.{members_of, changed, size_of};
+ghost use Rattle.path_host_constraints.specs.HostLists.{Enters, TakesHostsIf, SelectsHosts, NarrowsHosts, HostsLieIn, PermitsHostIn, PermitsFound, PermitsAllHosts, IsNarrowedHosts, ExcludesFound, ExcludesNoHost, HasEachHost};
+ghost use Rattle.path_host_constraints.specs.Lists.{members_of, left_of, changed, size_of};
 ghost use Rattle.path_host_constraints.specs.Indexes.{with_joined};
 
 use crate::indexes::Joined;
@@ -61,6 +61,18 @@ fn select<'a>(
     Ok(selected)
 }
 
+/// Whether each of the bases lies in one of these.
+fn lie_in(bases: &[HostBase<'_>], within: &HostIndex<'_>) -> bool
+    ensures { IsTrue result ↔ HostsLieIn within.now (map host_names bases.now) }
+{
+    for base in bases {
+        if !within.holds(base) {
+            return false;
+        }
+    }
+    true
+}
+
 /// An index of the bases.
 fn index_of<'a>(alloc: Global, bases: &[HostBase<'a>]) -> Result<HostIndex<'a>, AllocError>
     ensures { IfOk result (λ index. index ≡ map host_names bases.now) }
@@ -89,37 +101,49 @@ fn joined<'a>(
     HostIndex::of(alloc, all)
 }
 
-/// Intersects two lists: of each the bases that lie in one of the other, except those in one that is kept. Two bases that share a host
-/// are nested, so these have just the hosts that both lists have.
+/// Intersects two lists. The held one stays if each of its bases lies in one that is carried. Else the new one has of each list the bases
+/// that lie in one of the other, except those in one that is kept: two bases that share a host are nested, so these have just the
+/// hosts that both lists have.
 fn narrow<'a>(
     alloc: Global,
     held: &HostIndex<'a>,
     carried: &[HostBase<'a>],
-) -> Result<HostIndex<'a>, AllocError>
-    ensures narrows { IfOk result (NarrowsHosts held.now (map host_names carried.now)) }
-    ensures fewer { IfOk result (λ list. length list ≤ length held.now + length carried.now) }
+) -> Result<Option<HostIndex<'a>>, AllocError>
+    ensures narrows { IfOk result (λ change. NarrowsHosts held.now (map host_names carried.now)
+        (left_of held.now change)) }
+    ensures fewer { IfOk result (λ change.
+        length (left_of held.now change) ≤ length held.now + length carried.now) }
 {
     host_laws();
     let carried_index = index_of(alloc, carried)?;
+    if lie_in(held.bases(), &carried_index) {
+        return Ok(None);
+    }
     let none = no_bases(alloc)?;
     let kept = select(alloc, held.bases(), &carried_index, &none)?;
     let kept_index = HostIndex::of(alloc, kept)?;
     let entering = select(alloc, carried, held, &kept_index)?;
-    joined(alloc, entering, &kept_index)
+    let list = joined(alloc, entering, &kept_index)?;
+    Ok(Some(list))
 }
 
-/// The list behind a certificate that carries permitted bases.
+/// The change of the list behind a certificate that carries permitted bases.
 fn narrowed<'a>(
     alloc: Global,
     list: &Option<HostIndex<'a>>,
     carried: &[HostBase<'a>],
-) -> Result<HostIndex<'a>, AllocError>
-    ensures narrows { IfOk result (λ new. (host : List ℕ) → HasHost new host
+) -> Result<Option<HostIndex<'a>>, AllocError>
+    ensures narrows { IfOk result (λ change. (host : List ℕ) →
+        PermitsHostIn (changed list.now change) host
         ↔ (PermitsHostIn list.now host × HasHost (map host_names carried.now) host)) }
-    ensures fewer { IfOk result (λ new. length new ≤ size_of list.now + length carried.now) }
+    ensures fewer { IfOk result (λ change.
+        size_of (changed list.now change) ≤ size_of list.now + length carried.now) }
 {
     match list {
-        None => index_of(alloc, carried),
+        None => {
+            let new = index_of(alloc, carried)?;
+            Ok(Some(new))
+        }
         Some(held) => narrow(alloc, held, carried),
     }
 }
@@ -138,8 +162,7 @@ pub(crate) fn narrow_hosts<'a>(
     if carried.is_empty() {
         return Ok(None);
     }
-    let new = narrowed(alloc, list, carried)?;
-    Ok(Some(new))
+    narrowed(alloc, list, carried)
 }
 
 /// How many bases the list has.

@@ -3,8 +3,8 @@
 ghost use Rattle.std.specs.Prelude.{◌≡◌, ◌↔◌, ◌≤◌, ◌<◌, ◌+◌, ◌^◌, ◌++◌, [], List, IsTrue, IfOk, OnOk, length, map};
 ghost use Rattle.names_hosts.specs.Mail.{MailText, mail_text, mail_names};
 ghost use Rattle.names_hosts_order.specs.MailLists.{HasMail};
-ghost use Rattle.path_host_constraints.specs.MailLists.{Enters, TakesMailIf, SelectsMail, NarrowsMail, PermitsMailIn, PermitsAllMail, IsNarrowedMail, ExcludesNoMail};
-ghost use Rattle.path_host_constraints.specs.Lists.{members_of, changed, size_of};
+ghost use Rattle.path_host_constraints.specs.MailLists.{Enters, TakesMailIf, SelectsMail, NarrowsMail, MailLieIn, PermitsMailIn, PermitsAllMail, IsNarrowedMail, ExcludesNoMail};
+ghost use Rattle.path_host_constraints.specs.Lists.{members_of, left_of, changed, size_of};
 ghost use Rattle.path_host_constraints.specs.Indexes.{with_joined};
 
 use crate::indexes::Joined;
@@ -60,6 +60,18 @@ fn select<'a>(
     Ok(selected)
 }
 
+/// Whether each of the bases lies in one of these.
+fn lie_in(bases: &[MailBase<'_>], within: &MailIndex<'_>) -> bool
+    ensures { IsTrue result ↔ MailLieIn within.now (map mail_names bases.now) }
+{
+    for base in bases {
+        if !within.holds(base) {
+            return false;
+        }
+    }
+    true
+}
+
 /// An index of the bases.
 fn index_of<'a>(alloc: Global, bases: &[MailBase<'a>]) -> Result<MailIndex<'a>, AllocError>
     ensures { IfOk result (λ index. index ≡ map mail_names bases.now) }
@@ -88,37 +100,49 @@ fn joined<'a>(
     MailIndex::of(alloc, all)
 }
 
-/// Intersects two lists: of each the bases that lie in one of the other, except those in one that is kept. Two bases that share a mail
-/// address are nested, so these have just the mail addresses that both lists have.
+/// Intersects two lists. The held one stays if each of its bases lies in one that is carried. Else the new one has of each list the bases
+/// that lie in one of the other, except those in one that is kept: two bases that share a mail address are nested, so these have just the
+/// mail addresses that both lists have.
 fn narrow<'a>(
     alloc: Global,
     held: &MailIndex<'a>,
     carried: &[MailBase<'a>],
-) -> Result<MailIndex<'a>, AllocError>
-    ensures narrows { IfOk result (NarrowsMail held.now (map mail_names carried.now)) }
-    ensures fewer { IfOk result (λ list. length list ≤ length held.now + length carried.now) }
+) -> Result<Option<MailIndex<'a>>, AllocError>
+    ensures narrows { IfOk result (λ change. NarrowsMail held.now (map mail_names carried.now)
+        (left_of held.now change)) }
+    ensures fewer { IfOk result (λ change.
+        length (left_of held.now change) ≤ length held.now + length carried.now) }
 {
     mail_laws();
     let carried_index = index_of(alloc, carried)?;
+    if lie_in(held.bases(), &carried_index) {
+        return Ok(None);
+    }
     let none = no_bases(alloc)?;
     let kept = select(alloc, held.bases(), &carried_index, &none)?;
     let kept_index = MailIndex::of(alloc, kept)?;
     let entering = select(alloc, carried, held, &kept_index)?;
-    joined(alloc, entering, &kept_index)
+    let list = joined(alloc, entering, &kept_index)?;
+    Ok(Some(list))
 }
 
-/// The list behind a certificate that carries permitted bases.
+/// The change of the list behind a certificate that carries permitted bases.
 fn narrowed<'a>(
     alloc: Global,
     list: &Option<MailIndex<'a>>,
     carried: &[MailBase<'a>],
-) -> Result<MailIndex<'a>, AllocError>
-    ensures narrows { IfOk result (λ new. (name : MailText) → HasMail new name
+) -> Result<Option<MailIndex<'a>>, AllocError>
+    ensures narrows { IfOk result (λ change. (name : MailText) →
+        PermitsMailIn (changed list.now change) name
         ↔ (PermitsMailIn list.now name × HasMail (map mail_names carried.now) name)) }
-    ensures fewer { IfOk result (λ new. length new ≤ size_of list.now + length carried.now) }
+    ensures fewer { IfOk result (λ change.
+        size_of (changed list.now change) ≤ size_of list.now + length carried.now) }
 {
     match list {
-        None => index_of(alloc, carried),
+        None => {
+            let new = index_of(alloc, carried)?;
+            Ok(Some(new))
+        }
         Some(held) => narrow(alloc, held, carried),
     }
 }
@@ -137,8 +161,7 @@ pub(crate) fn narrow_mail<'a>(
     if carried.is_empty() {
         return Ok(None);
     }
-    let new = narrowed(alloc, list, carried)?;
-    Ok(Some(new))
+    narrowed(alloc, list, carried)
 }
 
 /// How many bases the list has.

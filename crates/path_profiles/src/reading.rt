@@ -38,8 +38,7 @@ fn read_path<'a>(
 
 /// Reads the certificates from DER, from below the anchor down, in a profile, and asks about them. In the stated profile this is
 /// `Query::read`. In the wide one each certificate of the path also has the names of its points, at which a verdict then looks for lists, and
-/// its mail addresses and hosts, whose constraints are then processed. The anchor has neither: of it only the name and the key are used, and
-/// no list speaks of it.
+/// its mail addresses and hosts, whose constraints are then processed. The anchor is read without them: only its name and its key count.
 ///
 /// The first certificate that is refused is reported, the anchor being 0: with the fault of reading it, else with that of its points, else
 /// with that of its mail addresses and hosts. If there is no room for the list of certificates, the one being read is, with

@@ -4,10 +4,11 @@
 //!
 //!     ocsp(R,05 good,06 revoked 1){by D}{signed D}
 //!
-//! `ocsp(I,SERIAL STATUS,..)` is a response named and signed by I, with a single response for each, of an id with the SHA-1 of name I and of
-//! key I, or behind `#`, as in `#05 good`, with the SHA-256; STATUS is `good`, `unknown`, `revoked` or `revoked REASON`; both times are 2025-06-01T00:00:00Z, nextUpdate is
-//! 2025-07-01T00:00:00Z. The certificates of `certs` are texts of their own; an empty text puts the value `3000` there, which is no
-//! certificate. Names, keys, algorithms and signatures are those of certificates.
+//! `ocsp(I,SERIAL STATUS,..)` is a response named and signed by I. It has a single response for each SERIAL; the id has the SHA-1 of the
+//! name and of the key of I, or their SHA-256 where `#` stands first, as in `#05 good`. STATUS is `good`, `unknown`, `revoked` or `revoked
+//! REASON`. thisUpdate and producedAt are 2025-06-01T00:00:00Z, nextUpdate is 2025-07-01T00:00:00Z. The certificates of `certs` are texts of
+//! their own; an empty text puts the value `3000` there, which is no certificate. Names, keys, algorithms and signatures are those of
+//! certificates.
 //!
 //! | Option | Says |
 //! |---|---|

@@ -1,20 +1,22 @@
-use Rattle.std.proofs.Common.{map}
-use Rattle.std.proofs.lemmas.Result.{IfOk-weaker}
+use Rattle.std.proofs.Common.{map, refl}
 use Rattle.names_hosts.specs.Hosts.{host_names}
 use Rattle.path_host_constraints.proofs.Loops.{joined_fewer}
-use Rattle.path_host_constraints.proofs.HostBases.{host_nests, narrowed_hosts}
+use Rattle.path_host_constraints.proofs.HostBases.{host_nests, lying_hosts, narrowed_hosts}
 use Rattle.path_host_constraints.proofs.host_lists.narrow.Goals as goal
+
+pub returns-then-lie_in-clause-narrows : goal.returns-then-lie_in-clause-narrows
+returns-then-lie_in-clause-narrows c =
+    lying_hosts (host_nests c.host_laws.ensures.inside c.host_laws.ensures.nested) c.args.held.now (map host_names c.args.carried.now)
+    c.in_ok-carried_index.carried_index (map host_names c.bases.result.now) c.in_ok-carried_index.ensures c.bases.ensures (c.if-lie_in.ensures.0 refl)
 
 pub returns-clause-narrows : goal.returns-clause-narrows
 returns-clause-narrows c =
-    IfOk-weaker c.joined.result _ _
-    (λ index is. narrowed_hosts (host_nests c.host_laws.ensures.inside c.host_laws.ensures.nested) c.args.held.now (map host_names c.args.carried.now)
-    c.in_ok-carried_index.carried_index c.in_ok-none.none (map host_names c.bases.result.now) (map host_names c.in_ok-kept.kept.items) c.in_ok-kept_index.kept_index
-    (map host_names c.in_ok-entering.entering.items) index c.in_ok-carried_index.ensures c.in_ok-none.ensures c.bases.ensures c.in_ok-kept_index.ensures
-    c.in_ok-kept.ensures.selects c.in_ok-entering.ensures.selects is) c.joined.ensures
+    narrowed_hosts (host_nests c.host_laws.ensures.inside c.host_laws.ensures.nested) c.args.held.now (map host_names c.args.carried.now)
+    c.in_ok-carried_index.carried_index c.in_ok-none.none (map host_names c.bases-2.result.now) (map host_names c.in_ok-kept.kept.items) c.in_ok-kept_index.kept_index
+    (map host_names c.in_ok-entering.entering.items) c.in_ok-list.list c.in_ok-carried_index.ensures c.in_ok-none.ensures c.bases-2.ensures c.in_ok-kept_index.ensures
+    c.in_ok-kept.ensures.selects c.in_ok-entering.ensures.selects c.in_ok-list.ensures
 
 pub returns-clause-fewer : goal.returns-clause-fewer
 returns-clause-fewer c =
-    IfOk-weaker c.joined.result _ _
-    (λ index is. joined_fewer host_names c.bases.result.now c.args.carried.now c.in_ok-kept.kept.items c.in_ok-entering.entering.items c.args.held.now c.in_ok-kept_index.kept_index index
-    c.bases.ensures c.in_ok-kept_index.ensures is c.in_ok-kept.ensures.fewer c.in_ok-entering.ensures.fewer) c.joined.ensures
+    joined_fewer host_names c.bases-2.result.now c.args.carried.now c.in_ok-kept.kept.items c.in_ok-entering.entering.items c.args.held.now c.in_ok-kept_index.kept_index
+    c.in_ok-list.list c.bases-2.ensures c.in_ok-kept_index.ensures c.in_ok-list.ensures c.in_ok-kept.ensures.fewer c.in_ok-entering.ensures.fewer

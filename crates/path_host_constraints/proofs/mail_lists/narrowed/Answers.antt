@@ -1,11 +1,20 @@
-use Rattle.std.proofs.Common.{◌↔◌, map, sym, subst}
+use Rattle.std.proofs.Common.{◌↔◌, ◌≤◌, ◌+◌, length, map, sym, subst}
 use Rattle.std.specs.Prelude.{IfOk}
+use Rattle.std.proofs.lemmas.Result.{IfOk-weaker}
 use Rattle.names_hosts.specs.Mail.{MailText, mail_names}
 use Rattle.names_hosts_order.specs.MailLists.{HasMail}
+use Rattle.path_host_constraints.specs.Lists.{changed, size_of}
 use Rattle.path_host_constraints.specs.MailLists.{PermitsMailIn}
+use Rattle.path_host_constraints.proofs.Loops.{size_after}
+use Rattle.path_host_constraints.proofs.MailBases.{as_change}
 use Rattle.path_host_constraints.proofs.mail_lists.narrowed.Goals as goal
 
 pub returns-in-Some-clause-narrows : goal.returns-in-Some-clause-narrows
 returns-in-Some-clause-narrows c =
-    subst (λ list. IfOk c.narrow.result (λ new. (name : MailText) → HasMail new name ↔ (PermitsMailIn list name × HasMail (map mail_names c.args.carried.now) name)))
-    (sym c.in-Some.is) c.narrow.ensures.narrows
+    subst (λ list. IfOk c.narrow.result (λ change. (name : MailText) → PermitsMailIn (changed list change) name ↔ (PermitsMailIn list name × HasMail (map mail_names c.args.carried.now) name)))
+    (sym c.in-Some.is) (IfOk-weaker c.narrow.result _ _ (λ change narrows. as_change c.in-Some.held (map mail_names c.args.carried.now) change narrows) c.narrow.ensures.narrows)
+
+pub returns-in-Some-clause-fewer : goal.returns-in-Some-clause-fewer
+returns-in-Some-clause-fewer c =
+    subst (λ list. IfOk c.narrow.result (λ change. size_of (changed list change) ≤ size_of list + length c.args.carried.now))
+    (sym c.in-Some.is) (IfOk-weaker c.narrow.result _ _ (λ change fewer. size_after c.in-Some.held (length c.args.carried.now) change fewer) c.narrow.ensures.fewer)
