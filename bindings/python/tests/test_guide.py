@@ -70,7 +70,7 @@ class Guide(unittest.TestCase):
     @unittest.skipUnless(PROGRAM, "the program is missing")
     def test_a_report(self):
         part = part_of_guide("From Python")
-        printed_by(block_with(part, PATH_IS_KNOWN) + "\n" + block_with(part, "page = "))
+        printed_by(block_with(part, AS_SENT) + "\n" + block_with(part, "page = "))
         with open("report.html", encoding="utf-8") as file:
             self.assertIn("<strong>valid</strong>", file.read())
 
