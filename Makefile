@@ -34,7 +34,7 @@ check:
 
 install: all
 	install -d $(bin) $(lib) $(private) $(include) $(libexec) $(share)/python/x509check $(share)/rust/src/party $(share)/openssl $(share)/party
-	install -d $(addprefix $(share)/,$(crates:%=%/src))
+	install -d $(share)/c $(addprefix $(share)/,$(crates:%=%/src))
 	install -m 755 "$$(.ci/where program)" $(bin)/x509check
 	install -m 644 bindings/out/libx509check.a $(lib)
 	install -m 644 crates/capi/x509check.h $(include)
@@ -50,12 +50,13 @@ install: all
 		install -m 644 bindings/$$crate/src/*.rs $(share)/$$crate/src || exit 1; \
 	done
 	install -m 644 bindings/openssl/x509check_openssl*.[ch] $(share)/openssl
+	install -m 644 bindings/c/x509check_common.h $(share)/c
 
 uninstall:
 	rm -f $(bin)/x509check $(lib)/libx509check.a $(include)/x509check.h
 	rm -f $(scripts:%=$(libexec)/%)
 	rm -f $(private)/libx509check.so
-	rm -rf $(share)/python $(share)/rust $(share)/openssl $(share)/party $(addprefix $(share)/,$(crates))
+	rm -rf $(share)/python $(share)/rust $(share)/openssl $(share)/party $(share)/c $(addprefix $(share)/,$(crates))
 	-rmdir $(libexec) $(share) $(private)
 
 help:
@@ -66,7 +67,7 @@ help:
 	@echo 'make install PREFIX=/usr/local DESTDIR='
 	@echo '                          bin/x509check, lib/libx509check.a, include/x509check.h, lib/x509check/libx509check.so,'
 	@echo '                          libexec/x509check/verdicts, validate, to_der and fetch, share/x509check/python, openssl, rust,'
-	@echo '                          rust-openssl, rust-rustls and party'
+	@echo '                          rust-openssl, rust-rustls, party and c'
 	@echo 'make uninstall            removes what install put there'
 	@echo 'make packages             a .deb, a wheel and crates in out/, without network'
 

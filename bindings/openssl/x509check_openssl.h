@@ -27,12 +27,21 @@ extern "C" {
 
 /* ---- The judge. ---- */
 
-/* Whether a call did what it was asked. No call answers 0. Only after X509CHECK_OPENSSL_DONE does its answer say anything. */
+/* Whether a call did what it was asked. No call answers 0. Only after X509CHECK_OPENSSL_DONE does its answer say anything, except that
+ * UNJUDGED and CONTRADICTED name a statement. */
 enum x509check_openssl_status {
     X509CHECK_OPENSSL_DONE = 1,
     X509CHECK_OPENSSL_NO_MEMORY = 2,
     X509CHECK_OPENSSL_BAD_POLICY = 3, /* a bit that stands for nothing, or a size of keys beyond 512 to 16384 bits */
-    X509CHECK_OPENSSL_FAILED = 4      /* OpenSSL did not do it, and says neither why nor that memory was refused: mostly it was */
+    /* OpenSSL did not do it, and does not say that memory was refused: mostly it was. An algorithm for which it was refused memory at the
+     * first use may be missing until the program ends: then each call that needs it fails. */
+    X509CHECK_OPENSSL_FAILED = 4,
+    /* The verdict would be X509CHECK_VALID, but nobody could judge the signature of a statement that may be by an issuer of the path. It
+     * may be the one that revokes. Hand in the others alone if it is to be left out. */
+    X509CHECK_OPENSSL_UNJUDGED = 5,
+    /* The verdict would be X509CHECK_VALID by the first of two statements of an issuer of the path that have the same number (or times),
+     * but the other one revokes a certificate of the path. */
+    X509CHECK_OPENSSL_CONTRADICTED = 6
 };
 
 /* What is said of a signature. No judgement is 0. */
@@ -69,11 +78,15 @@ struct x509check_openssl_policy {
     uint32_t digests;
     uint32_t curves;
     uint32_t minimum_rsa_bits; /* of the modulus, 512 to 16384 */
+    uint32_t maximum_rsa_bits; /* longer keys are not served; up to 16384, and 0 stands for X509CHECK_OPENSSL_RSA_BITS */
 };
 
-/* The policy wherever a pointer to one is null: no SHA-1, RSA of 2048 bits and more. */
+/* The longest RSA keys that are served, if the policy does not say. A verification takes the square of the length in time. */
+#define X509CHECK_OPENSSL_RSA_BITS 8192
+
+/* The policy wherever a pointer to one is null: no SHA-1, RSA of 2048 to 8192 bits. */
 #define X509CHECK_OPENSSL_DEFAULT_POLICY \
-    {X509CHECK_OPENSSL_ALL_DIGESTS & ~X509CHECK_OPENSSL_SHA1, X509CHECK_OPENSSL_ALL_CURVES, 2048}
+    {X509CHECK_OPENSSL_ALL_DIGESTS & ~X509CHECK_OPENSSL_SHA1, X509CHECK_OPENSSL_ALL_CURVES, 2048, X509CHECK_OPENSSL_RSA_BITS}
 
 /* Is `signature` the one of `message` under `key_info`, a subjectPublicKeyInfo, by `algorithm`, an AlgorithmIdentifier? Both in DER,
  * whole. */
@@ -84,10 +97,13 @@ struct x509check_openssl_signature {
     struct x509check_text signature; /* its octets, without a count of unused bits */
 };
 
-/* Judges one signature. Served are RSA (PKCS #1 v1.5, and RSASSA-PSS with all parameters of RFC 4055) with moduli of 512 to 16384 bits,
- * ECDSA on named curves (RFC 5480), both with SHA-1 and SHA-2, Ed25519 and Ed448 (RFC 8410). What can be read comes first, then what the
- * policy lets, and only then what is right. `*judgement` is set only if the answer is X509CHECK_OPENSSL_DONE. It costs a verification
- * by EVP, or two if the signature is wrong, since OpenSSL does not tell each lack of memory from that. */
+/* Judges one signature. Served are RSA (PKCS #1 v1.5, and RSASSA-PSS with all parameters of RFC 4055) with moduli of 512 bits to the
+ * policy's maximum, ECDSA on named curves (RFC 5480), both with SHA-1 and SHA-2, Ed25519 and Ed448 (RFC 8410). What can be read comes
+ * first, then what the policy lets, and only then what is right. `*judgement` is set only if the answer is X509CHECK_OPENSSL_DONE. It
+ * costs a verification by EVP, or two if the signature is wrong, since OpenSSL does not tell each lack of memory from that. What is served
+ * here and OpenSSL cannot do is X509CHECK_OPENSSL_FAILED, but for a point that is not on its curve, which is not served.
+ *
+ * OpenSSL 3.0 can crash by itself after memory was refused to it. */
 enum x509check_openssl_status x509check_openssl_judge(const struct x509check_openssl_signature *signature,
                                                       const struct x509check_openssl_policy *policy,
                                                       enum x509check_openssl_judgement *judgement);
@@ -105,7 +121,9 @@ struct x509check_openssl_judged {
 };
 
 /* Judges what x509check_questions or x509check_find_questions asks: each different question once. Of a search at most limits.signatures
- * questions are judged, those about statements with them. `judged` is to be freed by x509check_openssl_free, whatever the answer. */
+ * questions are judged, those about statements with them. It also gives up, before it takes memory for them, if names alone say that there
+ * are more than 65,536 questions (or limits.signatures, if that is more), equal ones counted each. `judged` is to be freed by
+ * x509check_openssl_free, whatever the answer. */
 enum x509check_openssl_status x509check_openssl_judge_query(const struct x509check_query *query, const struct x509check_text *statements,
                                                             size_t statement_count, const struct x509check_openssl_policy *policy,
                                                             struct x509check_openssl_judged *judged);
@@ -115,13 +133,23 @@ enum x509check_openssl_status x509check_openssl_judge_search(const struct x509ch
                                                              struct x509check_openssl_judged *judged);
 void x509check_openssl_free(struct x509check_openssl_judged *judged);
 
-/* Asks, judges and validates: what x509check_validate answers by the signatures that are good under the policy. */
+/* Asks, judges and validates: what x509check_validate answers by the signatures that are good under the policy.
+ *
+ * If a purpose is asked for, keyUsage counts too (RFC 5280, 4.2.1.12): a target that has one without a bit for a purpose of RFC 5280 is
+ * X509CHECK_INVALID for rank 14, as if its extKeyUsage did not allow the purpose.
+ *
+ * X509CHECK_VALID is answered only if no statement stands against it, else X509CHECK_OPENSSL_UNJUDGED or X509CHECK_OPENSSL_CONTRADICTED:
+ * then the refusal of the verdict names the first such statement, without a fault, and the rest is 0. To find that out, all statements are
+ * read once more; if one by an issuer of the path revokes a certificate of the path, the verdict is asked for once more. Not seen is a
+ * contradiction inside of one response. */
 enum x509check_openssl_status x509check_openssl_validate(const struct x509check_query *query, const struct x509check_text *statements,
                                                          size_t statement_count, const struct x509check_openssl_policy *policy,
                                                          struct x509check_verdict *verdict);
 
 /* Asks, judges and finds: what x509check_find answers by the signatures that are good under the policy, or X509CHECK_GAVE_UP if there are
- * more questions than limits.signatures. Up to `room` numbers are written to `path` (X509CHECK_PATH_ROOM). */
+ * more questions than x509check_openssl_judge_search judges. Up to `room` numbers are written to `path` (X509CHECK_PATH_ROOM). keyUsage
+ * counts as for x509check_openssl_validate: a target that is not there for the purpose is X509CHECK_NOT_FOUND. So do statements that stand
+ * against the path that is found. */
 enum x509check_openssl_status x509check_openssl_find(const struct x509check_search *search, const struct x509check_text *statements,
                                                      size_t statement_count, const struct x509check_openssl_policy *policy,
                                                      struct x509check_finding *finding, size_t *path, size_t room);
@@ -144,11 +172,18 @@ struct x509check_openssl_settings {
     struct x509check_limits limits;                /* each that is 0: X509CHECK_SIGNATURES and so on */
     size_t certificate_limit;                      /* how many a peer may send; 0: X509CHECK_OPENSSL_CERTIFICATES */
     int64_t moment;                                /* 0: the time of the X509_VERIFY_PARAM if it has one, else the system's clock */
-    /* The contents of an OBJECT IDENTIFIER. Length 0: id-kp-serverAuth of a server and id-kp-clientAuth of a client. Then
-     * keyUsage, if it is there, has to let the key sign; before TLS 1.3 also agree on keys or, of a server, encipher them. */
+    /* The contents of an OBJECT IDENTIFIER, for which keyUsage counts as for x509check_openssl_find. Length 0: id-kp-serverAuth of a
+     * server and id-kp-clientAuth of a client. Then keyUsage, if it is there, has to let the key sign; before TLS 1.3 it may also let it
+     * agree on keys or, of a server, encipher them. */
     struct x509check_text purpose;
-    bool accepts_unknown;  /* a peer is accepted too if no current statement speaks of a certificate of its path */
+    /* A peer is accepted too if no current statement speaks of a certificate of its path. It is refused all the same if a statement at
+     * hand that has lapsed (or is not current yet) revokes that certificate, unless a current one speaks for it: so hand in lapsed ones
+     * too. */
+    bool accepts_unknown;
     bool asks_for_no_name; /* a client that has no name in its X509_VERIFY_PARAM accepts whoever has a valid certificate */
+    /* A statement whose signature nobody can judge, and that may be by an issuer of the path, is left out; a stapled response too. Without
+     * this setting such a statement refuses a peer that would be accepted: it may be the one that revokes. */
+    bool leaves_out_unjudged;
 };
 
 /* How far the check of a peer is. No state is 0. */
@@ -169,12 +204,27 @@ struct x509check_openssl_outcome {
     struct x509check_diagnosis why_not;      /* if the verdict is X509CHECK_NOT_FOUND; else all 0 */
     uint8_t target[X509CHECK_SHA256_LENGTH]; /* the SHA-256 of the peer's certificate; 0 if it did not come to that */
     char words[256];                         /* all of this in a line of ASCII, for a log */
+    size_t unjudged_count;                   /* how many statements nobody could judge: they refused the peer, or were left out */
+    size_t statement;                        /* the first of them, or the one that revokes what others say is good */
 };
 
 /* Puts the check into the SSL_CTX of a client or of a server, and makes the peer show a certificate. It sets the mode and the callbacks
- * of verification, and turns resumption off, since a resumed session shows no certificate: no tickets, no cache. In a client it also asks
- * for a stapled response (RFC 6066, 8), and sets the callback for it. The SSL has to be told the server's name, by SSL_set1_host or
- * X509_VERIFY_PARAM_set1_ip; SSL_set_tlsext_host_name only tells the server.
+ * of verification. In a client it also asks for a stapled response (RFC 6066, 8), and sets the callback for it. The SSL has to be told the
+ * server's name, by SSL_set1_host or X509_VERIFY_PARAM_set1_ip; SSL_set_tlsext_host_name only tells the server.
+ *
+ * Resumption is turned off, since a resumed session shows no certificate: no tickets, no cache (what is in it is dropped), no callbacks
+ * for sessions, and a session id context that no other SSL_CTX has. A client that is handed a session of another SSL_CTX ends the
+ * handshake if the server resumes it.
+ *
+ * No connection carries data unless its peer was accepted in that handshake: none with a resumed session, with a pre-shared key, or under
+ * SSL_VERIFY_NONE. If OpenSSL completes such a handshake, SSL_read and SSL_write fail, and SSL_get_verify_result is
+ * X509_V_ERR_APPLICATION_VERIFICATION. The callback of SSL_CTX_set_keylog_callback sees to that, since OpenSSL calls it in each handshake;
+ * if you set another one, each peer is refused with X509_V_ERR_INVALID_CALL. (It does not look at the secrets.)
+ *
+ * SSL_set_SSL_CTX leaves an SSL its mode of verification. A server that changes to this SSL_CTX so has to call
+ * SSL_set_verify(ssl, SSL_CTX_get_verify_mode(tls), NULL) as well, or clients are not asked for a certificate, and are refused.
+ *
+ * A shared object with these sources may be unloaded (dlclose) once its own SSLs and SSL_CTXs are freed.
  *
  * The answer is 1 if all is in place. It is 0 if there are no anchors, or the policy is none, or a certificate or a statement of the
  * settings cannot be read, which `*refusal` then names (of its certificates the anchors come first, then the helpers), or memory was
@@ -188,17 +238,21 @@ int x509check_openssl_use_in_server(SSL_CTX *tls, struct x509check_openssl_setti
  * has an error other than X509_V_OK, its depth and, if the peer sent it, the certificate, and OpenSSL sends the alert that belongs to the
  * error.
  *
- * X509_V_ERR_CERT_REVOKED stands for revoked, X509_V_ERR_UNABLE_TO_GET_CRL for unknown, X509_V_ERR_CA_MD_TOO_WEAK for a signature that
- * the policy refuses, X509_V_ERR_UNSUPPORTED_SIGNATURE_ALGORITHM for one that is not served, X509_V_ERR_CERT_REJECTED for a certificate
- * of the peer that cannot be read, X509_V_ERR_OCSP_VERIFY_FAILED for such a stapled response, X509_V_ERR_APPLICATION_VERIFICATION for a
- * limit that is used up and for no check at all, and X509_V_ERR_INVALID_CALL for settings and names that cannot be used. If no path is
- * found, it is X509_V_ERR_UNABLE_TO_GET_ISSUER_CERT_LOCALLY, or that of the first certificate in the way: expired, no CA, and so on.
+ * X509_V_ERR_CERT_REVOKED stands for revoked, also by a statement that contradicts another or has lapsed (accepts_unknown),
+ * X509_V_ERR_UNABLE_TO_GET_CRL for unknown, X509_V_ERR_CA_MD_TOO_WEAK for a signature that the policy refuses,
+ * X509_V_ERR_UNSUPPORTED_SIGNATURE_ALGORITHM for one that is not served, X509_V_ERR_CRL_SIGNATURE_FAILURE for a statement that nobody can
+ * judge (leaves_out_unjudged), X509_V_ERR_CERT_REJECTED for a certificate of the peer that cannot be read, X509_V_ERR_OCSP_VERIFY_FAILED
+ * for a stapled response that cannot be read or judged, X509_V_ERR_APPLICATION_VERIFICATION for a limit that is used up and for no check
+ * at all, and X509_V_ERR_INVALID_CALL for settings and names that cannot be used. If no path is found, it is
+ * X509_V_ERR_UNABLE_TO_GET_ISSUER_CERT_LOCALLY, or that of the first certificate in the way: expired, no CA, and so on.
  *
- * The judge is asked at most limits.signatures questions. What a peer sends decides how many, and how long its keys are, up to 16384 bits.
+ * The judge is asked at most limits.signatures questions. What a peer sends decides how many, and how long its keys are, up to the maximum
+ * of the policy.
  *
  * Names are those of the X509_VERIFY_PARAM: one of the hosts, and the address, and the mailbox, if they are set. In a client none is an
- * error. X509_CHECK_FLAG_NO_WILDCARDS is not served, and an error. X509_VERIFY_PARAM_set_depth counts. Not looked at are flags and
- * purpose of the X509_VERIFY_PARAM, the X509_STORE, the level of security, DANE, and the callback of SSL_set_verify.
+ * error. A mailbox has to match by OpenSSL's comparison too, which takes none with a zero octet. X509_CHECK_FLAG_NO_WILDCARDS is not
+ * served, and an error. X509_VERIFY_PARAM_set_depth counts. Not looked at are flags and purpose of the X509_VERIFY_PARAM, the X509_STORE,
+ * the level of security, DANE, and the callback of SSL_set_verify.
  *
  * What OpenSSL cannot read does not come here. It hands over certificates as it encodes them again, the signed part as it came. */
 int x509check_openssl_verify(X509_STORE_CTX *context, void *settings);
@@ -209,9 +263,8 @@ int x509check_openssl_verify(X509_STORE_CTX *context, void *settings);
  * anything that is encrypted. A refusal here goes out as bad_certificate_status_response. Without this callback no check waits.
  *
  * A connection whose peer was not checked, as a resumed one of TLS 1.3, is refused here. OpenSSL calls this only if the client asks for a
- * response: if you turn that off, hand no session to SSL_set_session. Before TLS 1.3 the sessions of a client that checks by
- * x509check_openssl_verify have no identifier, and are not resumed; tickets would be, and x509check_openssl_use_in_client turns them
- * off. */
+ * response, and before TLS 1.3 not for a session that is resumed: x509check_openssl_use_in_client sees to those. Sessions of a client that
+ * checks by x509check_openssl_verify have no identifier before TLS 1.3, and are not resumed. */
 int x509check_openssl_status(SSL *ssl, void *settings);
 
 /* What the check of the peer said in the last handshake. Null if there was none, as in a resumed session. It lives as long as the SSL, or

@@ -1,10 +1,13 @@
 /* From what a peer showed to a ruling: the texts of the search, what is found, and what OpenSSL calls that. */
+#include <stdio.h>
 #include <stdlib.h>
 #include <string.h>
 
 #include <openssl/x509.h>
 
+#include "../c/x509check_common.h"
 #include "x509check_openssl_peer.h"
+#include "x509check_openssl_statements.h"
 
 /* Room for the certificates in the way of a path: more are not looked at. */
 #define OBSTACLES 64
@@ -260,9 +263,14 @@ static struct x509check_openssl_ruling rule_why_not(const struct x509check_opens
 {
     size_t above[X509CHECK_PATH_ROOM];
     struct x509check_obstacle obstacles[OBSTACLES];
+    uint32_t fault;
 
     *why_not = x509check_why_not(&peer->search, judged->good, judged->good_count, above, X509CHECK_PATH_ROOM, NULL, 0, obstacles,
                                  OBSTACLES);
+    /* (the library looks at extKeyUsage alone) */
+    if (why_not->why == X509CHECK_PATHS_END && !x509check_key_usage_allows(peer->search.target, peer->search.purpose, &fault))
+        *why_not = fault == 0 ? (struct x509check_diagnosis){.why = X509CHECK_TARGET_AT_FAULT, .reason = PURPOSE}
+                              : (struct x509check_diagnosis){.why = X509CHECK_REFUSED, .refusal.fault = fault};
     switch (why_not->why) {
     case X509CHECK_TARGET_AT_FAULT:
         return ruling_of_rank(why_not->reason, 0, peer->search.anchor_count);
@@ -317,23 +325,78 @@ static struct x509check_openssl_ruling rule_finding(const struct x509check_opens
     }
 }
 
-struct x509check_openssl_ruling x509check_openssl_rule(const struct x509check_openssl_peer *peer, struct x509check_finding *finding,
-                                                       struct x509check_diagnosis *why_not, size_t *path)
+/* ---- Statements that stand against it. ---- */
+
+/* A ruling that names a statement. */
+static struct x509check_openssl_ruling ruling_on_statement(const struct x509check_openssl_peer *peer, int error, const char *words,
+                                                           size_t statement)
+{
+    struct x509check_openssl_ruling ruling = ruling_of(error, 0, peer->search.anchor_count, words);
+
+    snprintf(ruling.name, sizeof ruling.name, "statement %zu", statement);
+    return ruling;
+}
+
+static struct x509check_openssl_ruling rule_unjudged(const struct x509check_openssl_peer *peer, size_t statement)
+{
+    bool is_stapled = peer->has_response && statement + 1 == peer->statement_count;
+
+    return ruling_on_statement(peer, is_stapled ? X509_V_ERR_OCSP_VERIFY_FAILED : X509_V_ERR_CRL_SIGNATURE_FAILURE,
+                               "a signature that nobody can judge", statement);
+}
+
+/* What is said of a peer that would be accepted. */
+static struct x509check_openssl_ruling rule_statements(const struct x509check_openssl_peer *peer,
+                                                       const struct x509check_openssl_judged *judged,
+                                                       struct x509check_openssl_outcome *outcome, const size_t *path,
+                                                       struct x509check_openssl_ruling accepted)
+{
+    const char *revoked = outcome->finding.verdict.verdict == X509CHECK_VALID ? "valid, but contradicted by one that revokes"
+                                                                              : "unknown, and revoked when last heard of";
+    struct x509check_openssl_doubts doubts;
+    enum x509check_openssl_status status =
+        x509check_openssl_doubt_found(&peer->search, path, &outcome->finding, peer->statements, peer->statement_count, judged, &doubts);
+
+    if (status != X509CHECK_OPENSSL_DONE)
+        return ruling_of(X509_V_ERR_OUT_OF_MEM, 0, peer->search.anchor_count, "no memory");
+    outcome->unjudged_count = doubts.unjudged_count;
+    outcome->statement = doubts.unjudged;
+    if (doubts.unjudged_count > 0 && !peer->settings->leaves_out_unjudged)
+        return rule_unjudged(peer, doubts.unjudged);
+    if (doubts.is_revoked) {
+        outcome->statement = doubts.revoking;
+        return ruling_on_statement(peer, X509_V_ERR_CERT_REVOKED, revoked, doubts.revoking);
+    }
+    if (doubts.unjudged_count > 0)
+        snprintf(accepted.name, sizeof accepted.name, "without statement %zu", doubts.unjudged);
+    return accepted;
+}
+
+static struct x509check_openssl_ruling rule_judged(const struct x509check_openssl_peer *peer,
+                                                   const struct x509check_openssl_judged *judged,
+                                                   struct x509check_openssl_outcome *outcome, const size_t *path)
+{
+    struct x509check_openssl_ruling ruling = rule_finding(peer, judged, &outcome->finding, &outcome->why_not, path);
+
+    if (outcome->finding.verdict.verdict == X509CHECK_UNKNOWN && peer->settings->accepts_unknown)
+        ruling.error = X509_V_OK;
+    return ruling.error == X509_V_OK ? rule_statements(peer, judged, outcome, path, ruling) : ruling;
+}
+
+struct x509check_openssl_ruling x509check_openssl_rule(const struct x509check_openssl_peer *peer,
+                                                       struct x509check_openssl_outcome *outcome, size_t *path)
 {
     struct x509check_openssl_judged judged;
     struct x509check_openssl_ruling ruling;
     enum x509check_openssl_status status =
         x509check_openssl_judge_search(&peer->search, peer->statements, peer->statement_count, peer->settings->policy, &judged);
 
-    *finding = (struct x509check_finding){0};
-    *why_not = (struct x509check_diagnosis){0};
-    if (status == X509CHECK_OPENSSL_DONE && judged.gave_up)
-        finding->verdict.verdict = X509CHECK_GAVE_UP;
-    else if (status == X509CHECK_OPENSSL_DONE)
-        *finding = x509check_find(&peer->search, peer->statements, peer->statement_count, judged.good, judged.good_count, path,
-                                  X509CHECK_PATH_ROOM);
+    outcome->finding = (struct x509check_finding){0};
+    outcome->why_not = (struct x509check_diagnosis){0};
     if (status == X509CHECK_OPENSSL_DONE)
-        ruling = rule_finding(peer, &judged, finding, why_not, path);
+        status = x509check_openssl_find_judged(&peer->search, peer->statements, peer->statement_count, &judged, &outcome->finding, path);
+    if (status == X509CHECK_OPENSSL_DONE)
+        ruling = rule_judged(peer, &judged, outcome, path);
     else if (status == X509CHECK_OPENSSL_BAD_POLICY)
         ruling = ruling_of(X509_V_ERR_INVALID_CALL, 0, peer->search.anchor_count, "the policy is none");
     else

@@ -46,8 +46,14 @@ X509 *x509check_openssl_sent(const struct x509check_openssl_peer *peer, size_t c
  * does not read one of the anchors or helpers. */
 STACK_OF(X509) *x509check_openssl_chain(const struct x509check_openssl_peer *peer, const size_t *path, size_t path_count);
 
-/* Judges and finds, and says what OpenSSL calls that. `path` has room for X509CHECK_PATH_ROOM. */
-struct x509check_openssl_ruling x509check_openssl_rule(const struct x509check_openssl_peer *peer, struct x509check_finding *finding,
-                                                       struct x509check_diagnosis *why_not, size_t *path);
+/* Judges and finds, and says what OpenSSL calls that. What the settings accept beside X509CHECK_VALID is accepted, with what is unknown
+ * in the words. `path` has room for X509CHECK_PATH_ROOM. */
+struct x509check_openssl_ruling x509check_openssl_rule(const struct x509check_openssl_peer *peer,
+                                                       struct x509check_openssl_outcome *outcome, size_t *path);
+
+/* Lets no connection of the SSL_CTX carry data whose peer was not accepted, and no session be resumed; false if memory is refused. And
+ * whether that is still so. */
+bool x509check_openssl_only_checked(SSL_CTX *tls);
+bool x509check_openssl_is_guarded(const SSL *ssl);
 
 #endif

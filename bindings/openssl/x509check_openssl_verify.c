@@ -1,4 +1,5 @@
 /* The check of a peer in a TLS handshake: OpenSSL's callbacks, what they take from OpenSSL, and what they tell it. */
+#include <errno.h>
 #include <stdio.h>
 #include <stdlib.h>
 #include <string.h>
@@ -51,6 +52,13 @@ static int copy_nothing(CRYPTO_EX_DATA *to, const CRYPTO_EX_DATA *from, void **k
 static void make_index(void)
 {
     kept_index = SSL_get_ex_new_index(0, NULL, NULL, copy_nothing, free_kept);
+}
+
+/* The object with these sources may be unloaded before the program ends: OpenSSL must not call it for other SSLs then. */
+__attribute__((destructor)) static void give_back_index(void)
+{
+    if (kept_index >= 0)
+        CRYPTO_free_ex_index(CRYPTO_EX_INDEX_SSL, kept_index);
 }
 
 static bool has_index(void)
@@ -194,18 +202,72 @@ static int match_address(struct x509check_text target, const char *address)
     return error;
 }
 
-/* Each kind of name that is set has to match, as X509_verify_cert has it. `address` may be null. */
-static int match_each(struct x509check_text target, X509_VERIFY_PARAM *names, const char *address)
+/* Ends a verification at a mailbox that does not match, and at nothing else. */
+static int stop_at_mailbox(int is_right, X509_STORE_CTX *context)
 {
-    const char *mailbox = X509_VERIFY_PARAM_get0_email(names);
+    return is_right == 1 || X509_STORE_CTX_get_error(context) != X509_V_ERR_EMAIL_MISMATCH;
+}
+
+static int verify_nothing(X509_STORE_CTX *context)
+{
+    (void)context;
+    return 1;
+}
+
+/* A context in which X509_verify_cert compares names and does little else: the certificate is trusted, and no signature is verified. */
+static bool begin_comparison(X509_STORE_CTX *context, const struct handshake *handshake, STACK_OF(X509) *trusted)
+{
+    X509_VERIFY_PARAM *parameters;
+
+    if (context == NULL || trusted == NULL || sk_X509_push(trusted, handshake->own) == 0
+        || X509_STORE_CTX_init(context, NULL, handshake->own, NULL) != 1)
+        return false;
+    parameters = X509_STORE_CTX_get0_param(context);
+    X509_STORE_CTX_set0_trusted_stack(context, trusted);
+    X509_STORE_CTX_set_verify_cb(context, stop_at_mailbox);
+    X509_STORE_CTX_set_verify(context, verify_nothing);
+    return X509_VERIFY_PARAM_set1(parameters, handshake->names) == 1 && X509_VERIFY_PARAM_clear_flags(parameters, ~0UL) == 1
+           && X509_VERIFY_PARAM_set_flags(parameters, X509_V_FLAG_PARTIAL_CHAIN | X509_V_FLAG_NO_CHECK_TIME) == 1;
+}
+
+/* OpenSSL's own comparison: it alone knows the length of the mailbox, and takes none with a zero octet in it. */
+static int match_mailbox_whole(const struct handshake *handshake)
+{
+    STACK_OF(X509) *trusted = sk_X509_new_null();
+    X509_STORE_CTX *context = X509_STORE_CTX_new();
+    int error = X509_V_ERR_OUT_OF_MEM;
+
+    if (begin_comparison(context, handshake, trusted)) {
+        if (X509_verify_cert(context) == 1)
+            error = X509_V_OK;
+        else if (X509_STORE_CTX_get_error(context) == X509_V_ERR_EMAIL_MISMATCH)
+            error = X509_V_ERR_EMAIL_MISMATCH;
+    }
+    X509_STORE_CTX_free(context);
+    sk_X509_free(trusted);
+    return error;
+}
+
+/* OpenSSL hands out the mailbox as a string: of one with a zero octet the part before that. */
+static int match_mailbox(const struct handshake *handshake, struct x509check_text target)
+{
+    const char *mailbox = X509_VERIFY_PARAM_get0_email(handshake->names);
+    int error = speaks_for(target, X509CHECK_MAILBOX, mailbox, strlen(mailbox), X509_V_ERR_EMAIL_MISMATCH);
+
+    return error == X509_V_OK ? match_mailbox_whole(handshake) : error;
+}
+
+/* Each kind of name that is set has to match, as X509_verify_cert has it. `address` may be null. */
+static int match_each(const struct handshake *handshake, struct x509check_text target, const char *address)
+{
     int error = X509_V_OK;
 
-    if (X509_VERIFY_PARAM_get0_host(names, 0) != NULL)
-        error = match_hosts(target, names);
+    if (X509_VERIFY_PARAM_get0_host(handshake->names, 0) != NULL)
+        error = match_hosts(target, handshake->names);
     if (error == X509_V_OK && address != NULL)
         error = match_address(target, address);
-    if (error == X509_V_OK && mailbox != NULL)
-        error = speaks_for(target, X509CHECK_MAILBOX, mailbox, strlen(mailbox), X509_V_ERR_EMAIL_MISMATCH);
+    if (error == X509_V_OK && X509_VERIFY_PARAM_get0_email(handshake->names) != NULL)
+        error = match_mailbox(handshake, target);
     return error;
 }
 
@@ -214,26 +276,29 @@ static bool needs_name(const struct handshake *handshake)
     return !handshake->settings->asks_for_no_name && (handshake->ssl == NULL || !SSL_is_server(handshake->ssl));
 }
 
-/* The address that is set, or null. OpenSSL answers null also if memory is refused, and does not say so: so it is asked once more. */
-static char *address_of(X509_VERIFY_PARAM *names)
+/* The address that is set, or null; false if memory is refused, which before OpenSSL 3.2 is told by errno alone. */
+static bool take_address(X509_VERIFY_PARAM *names, char **address)
 {
-    char *address = X509_VERIFY_PARAM_get1_ip_asc(names);
-
-    return address == NULL ? X509_VERIFY_PARAM_get1_ip_asc(names) : address;
+    ERR_clear_error();
+    errno = 0;
+    *address = X509_VERIFY_PARAM_get1_ip_asc(names);
+    return *address != NULL || (errno != ENOMEM && ERR_GET_REASON(ERR_peek_last_error()) != ERR_R_MALLOC_FAILURE);
 }
 
 static int match_names(const struct handshake *handshake, struct x509check_text target)
 {
     X509_VERIFY_PARAM *names = handshake->names;
-    char *address = address_of(names);
-    bool is_named = X509_VERIFY_PARAM_get0_host(names, 0) != NULL || X509_VERIFY_PARAM_get0_email(names) != NULL || address != NULL;
-    bool is_strict = (X509_VERIFY_PARAM_get_hostflags(names) & X509_CHECK_FLAG_NO_WILDCARDS) != 0;
+    bool is_strict = (X509_VERIFY_PARAM_get_hostflags(names) & X509_CHECK_FLAG_NO_WILDCARDS) != 0, is_named;
     int error = X509_V_OK;
+    char *address;
 
+    if (!take_address(names, &address))
+        return X509_V_ERR_OUT_OF_MEM;
+    is_named = X509_VERIFY_PARAM_get0_host(names, 0) != NULL || X509_VERIFY_PARAM_get0_email(names) != NULL || address != NULL;
     if ((!is_named && needs_name(handshake)) || (is_named && is_strict))
         error = X509_V_ERR_INVALID_CALL;
     else if (is_named)
-        error = match_each(target, names, address);
+        error = match_each(handshake, target, address);
     OPENSSL_free(address);
     return error;
 }
@@ -310,8 +375,8 @@ static struct x509check_openssl_ruling look_at(const struct handshake *handshake
     peer->search.purpose = purpose_of(handshake);
     x509check_sha256(peer->search.target.octets, peer->search.target.length, outcome->target);
     outcome->took_response = peer->has_response;
-    ruling = x509check_openssl_rule(peer, &outcome->finding, &outcome->why_not, path);
-    if (outcome->finding.verdict.verdict == X509CHECK_UNKNOWN && (handshake->waits || handshake->settings->accepts_unknown))
+    ruling = x509check_openssl_rule(peer, outcome, path);
+    if (ruling.error == X509_V_ERR_UNABLE_TO_GET_CRL && handshake->waits)
         ruling.error = X509_V_OK;
     return ruling.error == X509_V_OK ? rule_beside(handshake, peer, kept, ruling) : ruling;
 }
@@ -452,6 +517,20 @@ int x509check_openssl_verify(X509_STORE_CTX *context, void *settings)
     return settings == NULL ? refuse_unchecked(context, kept, X509_V_ERR_INVALID_CALL, "no settings") : verify(context, &handshake, kept);
 }
 
+/* The same in an SSL_CTX that is to let no connection pass unchecked: without its own callback it could not. */
+static int verify_guarded(X509_STORE_CTX *context, void *settings)
+{
+    SSL *ssl = X509_STORE_CTX_get_ex_data(context, SSL_get_ex_data_X509_STORE_CTX_idx());
+    struct kept *kept;
+
+    if (x509check_openssl_is_guarded(ssl))
+        return x509check_openssl_verify(context, settings);
+    kept = kept_anew(ssl);
+    if (kept == NULL)
+        return refuse(context, X509_V_ERR_OUT_OF_MEM);
+    return refuse_unchecked(context, kept, X509_V_ERR_INVALID_CALL, "the SSL_CTX has another keylog callback");
+}
+
 /* Decides with the response that has come, or without one. */
 static int decide(SSL *ssl, const struct x509check_openssl_settings *settings, struct kept *kept)
 {
@@ -503,21 +582,13 @@ static bool can_be_used(const struct x509check_openssl_settings *settings, struc
     return refusal->fault == 0;
 }
 
-/* A session that is resumed would show no certificate. */
-static bool turn_off_resumption(SSL_CTX *tls)
-{
-    SSL_CTX_set_session_cache_mode(tls, SSL_SESS_CACHE_OFF);
-    SSL_CTX_set_options(tls, SSL_OP_NO_TICKET);
-    return SSL_CTX_set_num_tickets(tls, 0) == 1;
-}
-
 static int use(SSL_CTX *tls, struct x509check_openssl_settings *settings, struct x509check_refusal *refusal, int mode)
 {
     struct x509check_refusal spare;
 
-    if (!can_be_used(settings, refusal == NULL ? &spare : refusal) || !has_index() || !turn_off_resumption(tls))
+    if (!can_be_used(settings, refusal == NULL ? &spare : refusal) || !has_index() || !x509check_openssl_only_checked(tls))
         return 0;
-    SSL_CTX_set_cert_verify_callback(tls, x509check_openssl_verify, settings);
+    SSL_CTX_set_cert_verify_callback(tls, verify_guarded, settings);
     SSL_CTX_set_verify(tls, mode, NULL);
     return 1;
 }

@@ -91,6 +91,82 @@ static void add_hex(struct grown *text, const uint8_t *octets, size_t length)
     text->octets[text->length] = '\0';
 }
 
+/* ---- processes that are forked */
+
+/* All parties of the process. The lock is theirs and that of their channels, which are made and closed under it: at a fork no channel is
+ * on the way, so that the child can close them all. With a channel it would keep whoever answers alive. */
+static pthread_mutex_t parties_lock = PTHREAD_MUTEX_INITIALIZER;
+static struct x509check_party *parties;
+static pthread_once_t handlers_once = PTHREAD_ONCE_INIT;
+static bool has_handlers;
+
+static void before_fork(void)
+{
+    pthread_mutex_lock(&parties_lock);
+}
+
+static void after_fork(void)
+{
+    pthread_mutex_unlock(&parties_lock);
+}
+
+/* Gives up a channel in a child, where it is the parent's: nothing is told to the other end. */
+static void forsake(struct x509check_party *party)
+{
+    if (party->channel >= 0)
+        close(party->channel);
+    party->channel = -1;
+}
+
+static void after_fork_in_child(void)
+{
+    for (struct x509check_party *party = parties; party != NULL; party = party->next) {
+        forsake(party);
+        party->is_forked = true;
+    }
+    parties = NULL;
+    after_fork();
+}
+
+static void set_handlers(void)
+{
+    has_handlers = pthread_atfork(before_fork, after_fork, after_fork_in_child) == 0;
+}
+
+/* Lists a party with the others; false if memory is refused. */
+static bool list_party(struct x509check_party *party)
+{
+    if (pthread_once(&handlers_once, set_handlers) != 0 || !has_handlers)
+        return false;
+    pthread_mutex_lock(&parties_lock);
+    party->next = parties;
+    parties = party;
+    pthread_mutex_unlock(&parties_lock);
+    return true;
+}
+
+static void unlist_party(const struct x509check_party *party)
+{
+    struct x509check_party **at = &parties;
+
+    pthread_mutex_lock(&parties_lock);
+    while (*at != party)
+        at = &(*at)->next;
+    *at = party->next;
+    pthread_mutex_unlock(&parties_lock);
+}
+
+/* (of a child that was made without the handlers its number tells) */
+static bool is_forked(const struct x509check_party *party)
+{
+    return party->is_forked || party->owner != getpid();
+}
+
+static bool is_own(struct call *call)
+{
+    return !is_forked(call->party) || fail(call, X509CHECK_PARTY_FORKED, "the party was opened before this process was forked");
+}
+
 /* ---- whoever answers */
 
 /* Starts the process, whose input and output are the socket. The answer is 0 or an error of the system. */
@@ -119,43 +195,70 @@ static int spawn(char *const words[], int socket, pid_t *process)
     return error;
 }
 
-static bool start_process(struct call *call)
+/* Makes the channel and the process at its other end. The answer is 0 or an error of the system, at `*where`. */
+static int open_channel_to_process(struct x509check_party *party, const char **where)
 {
-    struct x509check_party *party = call->party;
     int ends[2], error;
 
+    *where = "socketpair";
     if (socketpair(AF_UNIX, SOCK_STREAM | SOCK_CLOEXEC, 0, ends) != 0)
-        return fail_by_system(call, X509CHECK_PARTY_CANNOT_START, "socketpair", errno);
+        return errno;
+    *where = party->words[0];
     error = fcntl(ends[0], F_SETFL, O_NONBLOCK) == 0 ? spawn(party->words, ends[1], &party->process) : errno;
     close(ends[1]);
     if (error == 0) {
         party->channel = ends[0];
-        return true;
+        return 0;
     }
     close(ends[0]);
     party->process = 0; /* (it may have been written to) */
-    return fail_by_system(call, X509CHECK_PARTY_CANNOT_START, party->words[0], error);
+    return error;
+}
+
+static bool start_process(struct call *call)
+{
+    const char *where;
+    int error;
+
+    pthread_mutex_lock(&parties_lock);
+    error = open_channel_to_process(call->party, &where);
+    pthread_mutex_unlock(&parties_lock);
+    return error == 0 || fail_by_system(call, X509CHECK_PARTY_CANNOT_START, where, error);
+}
+
+/* Closes the channel. Whoever answers sees that also if a child has it still. */
+static void close_channel(struct x509check_party *party)
+{
+    pthread_mutex_lock(&parties_lock);
+    if (party->channel >= 0) {
+        shutdown(party->channel, SHUT_RDWR);
+        close(party->channel);
+    }
+    party->channel = -1;
+    pthread_mutex_unlock(&parties_lock);
 }
 
 static bool start_connection(struct call *call)
 {
     struct x509check_party *party = call->party;
     const struct sockaddr *address = (const struct sockaddr *)&party->address;
-    int error, socket_end = socket(AF_UNIX, SOCK_STREAM | SOCK_CLOEXEC | SOCK_NONBLOCK, 0);
+    int error;
 
-    if (socket_end < 0)
-        return fail_by_system(call, X509CHECK_PARTY_CANNOT_START, "socket", errno);
+    pthread_mutex_lock(&parties_lock);
+    party->channel = socket(AF_UNIX, SOCK_STREAM | SOCK_CLOEXEC | SOCK_NONBLOCK, 0);
+    error = errno;
+    pthread_mutex_unlock(&parties_lock);
+    if (party->channel < 0)
+        return fail_by_system(call, X509CHECK_PARTY_CANNOT_START, "socket", error);
     /* (whoever listens has a row of those who wait; as long as it is full, there is nothing to poll for) */
-    while ((error = connect(socket_end, address, sizeof party->address) == 0 ? 0 : errno) != 0) {
+    while ((error = connect(party->channel, address, sizeof party->address) == 0 ? 0 : errno) != 0) {
         if ((error != EAGAIN && error != EINTR) || now() >= call->deadline)
             break;
         rest();
     }
-    if (error == 0) {
-        party->channel = socket_end;
+    if (error == 0)
         return true;
-    }
-    close(socket_end);
+    close_channel(party);
     if (error == EAGAIN || error == EINTR)
         return fail(call, X509CHECK_PARTY_TIMED_OUT, "no connection within %" PRIu32 " ms", party->milliseconds);
     return fail_by_system(call, X509CHECK_PARTY_CANNOT_START, party->address.sun_path, error);
@@ -187,11 +290,9 @@ static void reap(pid_t process, int64_t until, char *how, size_t room)
 static void end(struct x509check_party *party, int64_t milliseconds, char *how, size_t room)
 {
     snprintf(how, room, "the connection was closed");
-    if (party->channel >= 0)
-        close(party->channel);
+    close_channel(party);
     if (party->process != 0)
         reap(party->process, now() + milliseconds, how, room);
-    party->channel = -1;
     party->process = 0;
     party->heard.length = party->used = 0;
 }

@@ -8,6 +8,7 @@
  * nothing.
  *
  *     believe FINGERPRINT | forget | descriptors
+ *     fork LINE (in a child, which closes the party then, by a call) | leave (a child that lives on; its number)
  *     deliver JUDGE ISSUER STATEMENT
  *     check JUDGE MOMENT PURPOSE ANCHOR PATH
  *     find JUDGE MOMENT PURPOSE KIND NAME ANCHORS OTHERS TARGET
@@ -19,6 +20,8 @@
 #include <stdio.h>
 #include <stdlib.h>
 #include <string.h>
+#include <sys/wait.h>
+#include <unistd.h>
 
 #include "x509check_party.h"
 
@@ -115,7 +118,7 @@ static x509check_party_judge *judge_of(const char *word)
 static void print(const struct x509check_party_outcome *outcome, const char *answer)
 {
     printf("%d", (int)outcome->status);
-    if (outcome->status == X509CHECK_PARTY_DONE)
+    if (outcome->status == X509CHECK_PARTY_DONE || outcome->status == X509CHECK_PARTY_CONTRADICTED)
         printf("%s", answer);
     if (outcome->status == X509CHECK_PARTY_REFUSED)
         printf(" %" PRIu32, outcome->program_status);
@@ -254,6 +257,41 @@ static void count_descriptors(void)
     fflush(stdout);
 }
 
+/* ---- children */
+
+static void answer_line(struct x509check_party *party, char *line);
+
+/* What a child that is forked says to the line. It closes the party. */
+static void answer_in_child(struct x509check_party *party, char *line)
+{
+    int status;
+    pid_t child;
+
+    fflush(stdout);
+    child = fork();
+    if (child == 0) {
+        answer_line(party, line);
+        x509check_party_close(party);
+        _exit(0);
+    }
+    if (child < 0 || waitpid(child, &status, 0) != child || status != 0)
+        must(NULL, "child");
+}
+
+/* A child that does nothing, for as long as nobody ends it. */
+static void leave_child(void)
+{
+    pid_t child = fork();
+
+    if (child == 0) {
+        close(STDOUT_FILENO);
+        for (;;)
+            pause();
+    }
+    printf("%d\n", (int)child);
+    fflush(stdout);
+}
+
 /* ---- lines */
 
 static void answer_line(struct x509check_party *party, char *line)
@@ -261,6 +299,10 @@ static void answer_line(struct x509check_party *party, char *line)
     char *words[MOST_WORDS] = {NULL}, *rest = NULL;
     size_t count = 0;
 
+    if (strncmp(line, "fork ", 5) == 0) {
+        answer_in_child(party, line + 5);
+        return;
+    }
     for (char *word = strtok_r(line, " \n", &rest); word != NULL && count < MOST_WORDS; word = strtok_r(NULL, " \n", &rest))
         words[count++] = word;
     if (count == 2 && strcmp(words[0], "believe") == 0) {
@@ -269,6 +311,8 @@ static void answer_line(struct x509check_party *party, char *line)
         struct x509check_party_outcome said = x509check_party_forget(party);
 
         print(&said, "");
+    } else if (count == 1 && strcmp(words[0], "leave") == 0) {
+        leave_child();
     } else if (count == 1 && strcmp(words[0], "descriptors") == 0) {
         count_descriptors();
     } else if (count == 4 && strcmp(words[0], "deliver") == 0) {

@@ -5,6 +5,8 @@
 #define _POSIX_C_SOURCE 200809L
 #include "x509check_party.h"
 
+#include "../c/x509check_common.h"
+
 #include <errno.h>
 #include <fcntl.h>
 #include <inttypes.h>
@@ -55,8 +57,11 @@ struct prints {
 };
 
 struct x509check_party {
-    char **words;               /* of the program; null of a socket */
-    struct sockaddr_un address; /* of the socket */
+    struct x509check_party *next; /* of all parties of the process */
+    pid_t owner;                  /* the process that opened it */
+    bool is_forked;               /* that process was forked, and this is the child */
+    char **words;                 /* of the program; null of a socket */
+    struct sockaddr_un address;   /* of the socket */
     uint32_t milliseconds;
     pthread_mutex_t lock; /* of the fields down to `believed`, which only who has the turn changes, and reads without the lock */
     pthread_cond_t changed;
@@ -64,7 +69,7 @@ struct x509check_party {
     uint64_t forgets; /* how often it was forgotten what is believed */
     struct prints believed;
     /* Who has the turn uses these. */
-    int channel;   /* -1 if nobody answers */
+    int channel;   /* -1 if nobody answers; changed only under the lock of all parties */
     pid_t process; /* 0 of a socket */
     struct grown heard;
     size_t used; /* the front of what was heard that was handed out */
@@ -289,15 +294,34 @@ struct inquiry {
     size_t count;
 };
 
-static bool unreadable(struct call *call, const struct x509check_refusal *refusal)
+/* Writes what is refused, as the caller knows it. Certificates are counted from 1, and only the anchor of a path is 0. */
+static void name_refused(const struct inquiry *inquiry, const struct x509check_refusal *refusal, char *name, size_t room)
 {
-    char name[X509CHECK_NAME_ROOM] = "";
+    size_t index = refusal->index, anchors = inquiry->search == NULL ? 0 : inquiry->search->anchor_count;
+
+    if (refusal->text == X509CHECK_STATEMENTS)
+        snprintf(name, room, "statement");
+    else if (inquiry->statement != NULL)
+        snprintf(name, room, "issuer");
+    else if (inquiry->query != NULL && index == 0)
+        snprintf(name, room, "anchor");
+    else if (inquiry->query != NULL)
+        snprintf(name, room, "certificate %zu", index);
+    else if (index == anchors)
+        snprintf(name, room, "target");
+    else
+        snprintf(name, room, "%s %zu", index < anchors ? "anchor" : "other", index < anchors ? index + 1 : index - anchors);
+}
+
+static bool unreadable(struct call *call, const struct inquiry *inquiry, const struct x509check_refusal *refusal)
+{
+    char name[X509CHECK_NAME_ROOM] = "", title[40];
 
     if (refusal->text == 0)
         return fail(call, X509CHECK_PARTY_NO_MEMORY, "no memory");
     x509check_fault_name(refusal->fault, name, sizeof name);
-    fail(call, X509CHECK_PARTY_UNREADABLE, "%s %zu: %" PRIu32 " %s at %zu",
-         refusal->text == X509CHECK_CERTIFICATES ? "certificate" : "statement", refusal->index, refusal->fault, name, refusal->offset);
+    name_refused(inquiry, refusal, title, sizeof title);
+    fail(call, X509CHECK_PARTY_UNREADABLE, "%s: %" PRIu32 " %s at %zu", title, refusal->fault, name, refusal->offset);
     call->outcome->refusal = *refusal;
     return false;
 }
@@ -307,6 +331,26 @@ static struct x509check_asked list_questions(const struct inquiry *inquiry, size
     if (inquiry->query == NULL)
         return x509check_find_questions(inquiry->search, NULL, 0, inquiry->questions, room);
     return x509check_questions(inquiry->query, inquiry->statement, inquiry->statement != NULL, inquiry->questions, room);
+}
+
+static int by_fingerprint(const void *one, const void *other)
+{
+    const struct x509check_signature_question *first = one, *second = other;
+
+    return memcmp(first->fingerprint, second->fingerprint, PRINT);
+}
+
+/* One question may be there twice: of equal ones the first is kept. */
+static void keep_different(struct inquiry *inquiry)
+{
+    size_t kept = 0;
+
+    if (inquiry->count > 0)
+        qsort(inquiry->questions, inquiry->count, sizeof *inquiry->questions, by_fingerprint);
+    for (size_t i = 0; i < inquiry->count; i++)
+        if (i == 0 || by_fingerprint(&inquiry->questions[i], &inquiry->questions[kept - 1]) != 0)
+            inquiry->questions[kept++] = inquiry->questions[i];
+    inquiry->count = kept;
 }
 
 /* Reads the certificates and the statement, and lists the questions about them if somebody judges. Nothing is passed over that cannot be
@@ -323,11 +367,12 @@ static bool read_texts(struct call *call, struct inquiry *inquiry)
         inquiry->questions = questions;
         asked = list_questions(inquiry, room);
         if (asked.refusal.fault != 0)
-            return unreadable(call, &asked.refusal);
+            return unreadable(call, inquiry, &asked.refusal);
         if (inquiry->judge == NULL || asked.count <= room)
             break;
     }
     inquiry->count = inquiry->judge == NULL ? 0 : asked.count;
+    keep_different(inquiry);
     return true;
 }
 
@@ -346,7 +391,8 @@ static struct x509check_text text_at(const struct inquiry *inquiry, const struct
     return (struct x509check_text){text->octets + place->offset, place->length};
 }
 
-static bool is_good(const struct inquiry *inquiry, const struct x509check_signature_question *question)
+/* 1 if it is good; a negative number if nobody can tell. */
+static int judge(const struct inquiry *inquiry, const struct x509check_signature_question *question)
 {
     const struct x509check_party_question asked = {
         .algorithm = text_at(inquiry, &question->algorithm),
@@ -356,7 +402,7 @@ static bool is_good(const struct inquiry *inquiry, const struct x509check_signat
         .fingerprint = question->fingerprint,
     };
 
-    return inquiry->judge(&asked, inquiry->context) == 1;
+    return inquiry->judge(&asked, inquiry->context);
 }
 
 static bool believes(struct x509check_party *party, const uint8_t *print)
@@ -370,17 +416,20 @@ static bool believes(struct x509check_party *party, const uint8_t *print)
 }
 
 /* The fingerprints of what is good; of what is believed the judge is not asked. There is room for all. */
-static void judge_all(struct x509check_party *party, const struct inquiry *inquiry, struct prints *good)
+static bool judge_all(struct call *call, const struct inquiry *inquiry, struct prints *good)
 {
     good->count = 0;
     for (size_t i = 0; i < inquiry->count; i++) {
         const struct x509check_signature_question *question = &inquiry->questions[i];
         bool is_asked = inquiry->statement == NULL || question->message.text == X509CHECK_STATEMENTS;
+        int said = !is_asked ? 0 : believes(call->party, question->fingerprint) ? 1 : judge(inquiry, question);
 
-        if (is_asked && !has(good, question->fingerprint) &&
-            (believes(party, question->fingerprint) || is_good(inquiry, question)))
+        if (said < 0)
+            return fail(call, X509CHECK_PARTY_NOT_JUDGED, "the judge could not tell whether a signature is good");
+        if (said == 1)
             insert(good, question->fingerprint);
     }
+    return true;
 }
 
 static uint64_t forgets_of(struct x509check_party *party)
@@ -405,7 +454,8 @@ static bool judge_and_ask(struct call *call, const struct inquiry *inquiry, stru
     while (!is_current) {
         uint64_t forgets = forgets_of(party);
 
-        judge_all(party, inquiry, &good);
+        if (!judge_all(call, inquiry, &good))
+            break;
         call->deadline = now() + party->milliseconds;
         if (!take_turn(call))
             break;
@@ -419,16 +469,22 @@ static bool judge_and_ask(struct call *call, const struct inquiry *inquiry, stru
 
 /* ---- the calls */
 
-static void release(struct x509check_party *party)
+static void release_memory(struct x509check_party *party)
 {
     for (char **word = party->words; word != NULL && *word != NULL; word++)
         free(*word);
     free(party->words);
     free(party->believed.octets);
     free(party->heard.octets);
+    free(party);
+}
+
+static void release(struct x509check_party *party)
+{
+    unlist_party(party);
     pthread_cond_destroy(&party->changed);
     pthread_mutex_destroy(&party->lock);
-    free(party);
+    release_memory(party);
 }
 
 static struct x509check_party *create(uint32_t milliseconds)
@@ -442,11 +498,12 @@ static struct x509check_party *create(uint32_t milliseconds)
         return NULL;
     }
     party->channel = -1;
+    party->owner = getpid();
     party->milliseconds = milliseconds == 0 ? LIMIT : milliseconds;
     is_made = pthread_condattr_setclock(&attributes, CLOCK_MONOTONIC) == 0 && pthread_cond_init(&party->changed, &attributes) == 0 &&
               pthread_mutex_init(&party->lock, NULL) == 0;
     pthread_condattr_destroy(&attributes);
-    if (is_made)
+    if (is_made && list_party(party))
         return party;
     free(party);
     return NULL;
@@ -535,6 +592,11 @@ void x509check_party_close(struct x509check_party *party)
 
     if (party == NULL)
         return;
+    if (is_forked(party)) {
+        forsake(party);
+        release_memory(party); /* (other threads may have had the locks when it was forked) */
+        return;
+    }
     end(party, CLOSING, how, sizeof how);
     release(party);
 }
@@ -548,7 +610,7 @@ struct x509check_party_outcome x509check_party_believe(struct x509check_party *p
     const struct prints good = {.octets = octets, .count = 1};
 
     memcpy(octets, fingerprint, PRINT);
-    if (take_turn(&call)) {
+    if (is_own(&call) && take_turn(&call)) {
         ask(&call, &request, &good);
         leave_turn(party);
     }
@@ -562,6 +624,8 @@ struct x509check_party_outcome x509check_party_forget(struct x509check_party *pa
     struct request request = {.form = FORGET};
     const struct prints none = {0};
 
+    if (!is_own(&call))
+        return outcome;
     while (!take_turn(&call))
         call.deadline = now() + party->milliseconds;
     pthread_mutex_lock(&party->lock);
@@ -577,14 +641,22 @@ struct x509check_party_outcome x509check_party_forget(struct x509check_party *pa
     return outcome;
 }
 
+/* A certificate of version 1 without any extension (RFC 5280, 4.1), issued by CN=x, whose signature has no octets. */
+static const uint8_t any_certificate[] = {
+    0x30, 76, 0x30, 66, 2, 1, 1, 0x30, 3, 6, 1, 0x2A, 0x30, 12, 0x31, 10, 0x30, 8, 6, 3, 0x55, 4, 3, 12, 1, 'x',
+    0x30, 30, 0x17, 13, '7', '0', '0', '1', '0', '1', '0', '0', '0', '0', '0', '0', 'Z',
+    0x17, 13, '7', '0', '0', '1', '0', '1', '0', '0', '0', '0', '0', '0', 'Z',
+    0x30, 0, 0x30, 8, 0x30, 3, 6, 1, 0x2A, 3, 1, 0, 0x30, 3, 6, 1, 0x2A, 3, 1, 0};
+
 struct x509check_party_delivery x509check_party_deliver(struct x509check_party *party, struct x509check_text issuer,
                                                         struct x509check_text statement, x509check_party_judge *judge, void *context)
 {
     struct x509check_party_delivery delivery = {0};
     struct call call = {.party = party, .outcome = &delivery.outcome};
-    /* (the issuer stands for the certificate below it too, about which nothing is asked) */
+    /* (about the certificate below the issuer nothing is asked: it makes the issuer the anchor, which is read in either profile alike) */
     /* (and the wide profile reads what the stated one does alike: whether the store serves a list at a point is the program's to say) */
-    const struct x509check_query query = {.anchor = issuer, .path = &issuer, .path_count = 1, .wide = 1};
+    const struct x509check_text below = {any_certificate, sizeof any_certificate};
+    const struct x509check_query query = {.anchor = issuer, .path = &below, .path_count = 1, .wide = 1};
     struct inquiry inquiry = {.query = &query, .statement = &statement, .judge = judge, .context = context};
     struct operand operands[] = {
         {.title = "issuer", .texts = &issuer, .count = 1},
@@ -593,15 +665,27 @@ struct x509check_party_delivery x509check_party_deliver(struct x509check_party *
     struct request request = {.form = DELIVER, .operands = operands, .operand_count = 2};
 
     add(&request.line, "deliver");
-    if (read_texts(&call, &inquiry) && write_operands(&call, &request) && end_line(&call, &request) &&
+    if (is_own(&call) && read_texts(&call, &inquiry) && write_operands(&call, &request) && end_line(&call, &request) &&
         judge_and_ask(&call, &inquiry, &request)) {
         delivery.stored = request.counts[0];
         delivery.kept = request.counts[1];
         delivery.contradicted = request.counts[2];
+        if (delivery.contradicted > 0)
+            fail(&call, X509CHECK_PARTY_CONTRADICTED, "the issuer signed something else with the same number or times, which is held");
     }
     discard(&request);
     free(inquiry.questions);
     return delivery;
+}
+
+/* Whether the certificate, which has been read, is there for the purpose by its keyUsage; false if memory is refused. */
+static bool look_at_usage(struct call *call, const struct x509check_text *certificate, const struct x509check_text *purpose,
+                          bool *is_there)
+{
+    uint32_t fault;
+
+    *is_there = x509check_key_usage_allows(*certificate, *purpose, &fault);
+    return fault == 0 || fail(call, X509CHECK_PARTY_NO_MEMORY, "no memory");
 }
 
 struct x509check_party_verdict x509check_party_check(struct x509check_party *party, const struct x509check_query *query,
@@ -613,6 +697,7 @@ struct x509check_party_verdict x509check_party_check(struct x509check_party *par
     struct x509check_query asked = *query;
     struct inquiry inquiry = {.query = &asked, .judge = judge, .context = context};
     struct request request = {.form = CHECK, .operands = operands, .operand_count = 1};
+    bool is_there;
 
     if (asked.path_count > MOST_CERTIFICATES + 1)
         asked.path_count = MOST_CERTIFICATES + 1; /* (it is as much too long) */
@@ -620,8 +705,14 @@ struct x509check_party_verdict x509check_party_check(struct x509check_party *par
         operands[request.operand_count++] = (struct operand){.title = "certificate", .texts = &asked.path[i], .count = 1};
     if (asked.path_count == 0)
         fail(&call, X509CHECK_PARTY_BAD_REQUEST, "a path has at least one certificate");
-    else if (begin_line(&call, &request, "check ", asked.moment, &asked.purpose) && read_texts(&call, &inquiry) &&
-             write_operands(&call, &request) && end_line(&call, &request) && judge_and_ask(&call, &inquiry, &request)) {
+    else if (is_own(&call) && begin_line(&call, &request, "check ", asked.moment, &asked.purpose) && read_texts(&call, &inquiry) &&
+             look_at_usage(&call, &asked.path[asked.path_count - 1], &asked.purpose, &is_there) && write_operands(&call, &request) &&
+             end_line(&call, &request) && judge_and_ask(&call, &inquiry, &request)) {
+        if (!is_there && request.verdict != X509CHECK_INVALID) {
+            request.verdict = X509CHECK_INVALID;
+            request.reason = X509CHECK_RANK_PURPOSE;
+            request.certificate = asked.path_count;
+        }
         answer.verdict = request.verdict;
         answer.reason = request.reason;
         answer.certificate = request.certificate;
@@ -661,6 +752,44 @@ static void tell_path(const struct x509check_search *search, const struct reques
     found->certificate = request->certificate;
 }
 
+/* Reads the certificates of a search, and lists the questions; `*gives_up` if they are more than a judge is asked. They are counted by
+ * names first, as each takes memory. */
+static bool read_search(struct call *call, struct inquiry *inquiry, bool *gives_up)
+{
+    enum x509check_amount amount = x509check_amount_of_questions(inquiry->search, NULL, 0, X509CHECK_QUESTIONS_MOST);
+
+    *gives_up = amount == X509CHECK_MANY;
+    if (amount == X509CHECK_UNCOUNTED)
+        return fail(call, X509CHECK_PARTY_NO_MEMORY, "no memory");
+    if (*gives_up)
+        return true;
+    if (!read_texts(call, inquiry))
+        return false;
+    *gives_up = inquiry->count > X509CHECK_SIGNATURES;
+    return true;
+}
+
+/* Asks the program for a path to a target whose certificates and signatures are read. */
+static bool ask_search(struct call *call, const struct inquiry *inquiry, const struct x509check_party_name *name, struct request *request)
+{
+    const struct x509check_search *search = inquiry->search;
+    uint32_t speaks = X509CHECK_SPEAKS;
+    bool is_there;
+
+    if (!look_at_usage(call, &search->target, &search->purpose, &is_there) ||
+        (name != NULL && !ask_name(call, &search->target, name, &speaks)) || !write_operands(call, request) || !end_line(call, request) ||
+        !judge_and_ask(call, inquiry, request))
+        return false;
+    if (request->place_count > 0 && !is_there) {
+        request->verdict = X509CHECK_NOT_FOUND;
+        request->reason = 0;
+        request->certificate = request->place_count = 0;
+    }
+    if (request->verdict == X509CHECK_VALID && speaks != X509CHECK_SPEAKS)
+        request->verdict = X509CHECK_PARTY_OTHER_NAME;
+    return true;
+}
+
 struct x509check_party_finding x509check_party_find(struct x509check_party *party, const struct x509check_search *search,
                                                     const struct x509check_party_name *name, x509check_party_judge *judge,
                                                     void *context, size_t *path, size_t room)
@@ -670,19 +799,19 @@ struct x509check_party_finding x509check_party_find(struct x509check_party *part
     struct operand operands[3] = {{.title = "anchors", .texts = search->anchors, .count = search->anchor_count}};
     struct inquiry inquiry = {.search = search, .judge = judge, .context = context};
     struct request request = {.form = FIND, .operands = operands, .operand_count = 1};
-    uint32_t speaks = X509CHECK_SPEAKS;
+    bool gives_up;
 
     if (search->bag_count > 0)
         operands[request.operand_count++] = (struct operand){.title = "others", .texts = search->bag, .count = search->bag_count};
     operands[request.operand_count++] = (struct operand){.title = "target", .texts = &search->target, .count = 1};
     if (search->anchor_count == 0)
         fail(&call, X509CHECK_PARTY_BAD_REQUEST, "there is no anchor");
-    else if (begin_line(&call, &request, "find ", search->moment, &search->purpose) && read_texts(&call, &inquiry) &&
-             (name == NULL || ask_name(&call, &search->target, name, &speaks)) && write_operands(&call, &request) &&
-             end_line(&call, &request) && judge_and_ask(&call, &inquiry, &request)) {
-        tell_path(search, &request, &found, path, room);
-        if (found.verdict == X509CHECK_VALID && speaks != X509CHECK_SPEAKS)
-            found.verdict = X509CHECK_PARTY_OTHER_NAME;
+    else if (is_own(&call) && begin_line(&call, &request, "find ", search->moment, &search->purpose) &&
+             read_search(&call, &inquiry, &gives_up)) {
+        if (gives_up)
+            found = (struct x509check_party_finding){.outcome.status = X509CHECK_PARTY_DONE, .verdict = X509CHECK_GAVE_UP};
+        else if (ask_search(&call, &inquiry, name, &request))
+            tell_path(search, &request, &found, path, room);
     }
     discard(&request);
     free(inquiry.questions);

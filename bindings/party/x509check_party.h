@@ -15,10 +15,11 @@
  * expected, is told only by its form.)
  *
  * No call raises a signal, and no descriptor is inherited by other processes. A program must not reap the process by itself (by a wait
- * for any child), and a child that it forks must not call.
+ * for any child). A child that it forks does not keep the process or the connection alive. There each call is X509CHECK_PARTY_FORKED, and
+ * x509check_party_close only frees memory: a worker opens a party of its own after the fork.
  *
- * Compile x509check_party.c with the program, and link with libx509check.a and -pthread. It is C11 and POSIX, with the flag SOCK_CLOEXEC
- * of POSIX.1-2024. */
+ * Compile x509check_party.c with the program, and link with libx509check.a and -pthread. It includes the headers beside it and
+ * ../c/x509check_common.h. It is C11 and POSIX, with the flag SOCK_CLOEXEC of POSIX.1-2024. */
 #ifndef X509CHECK_PARTY_H
 #define X509CHECK_PARTY_H
 
@@ -32,7 +33,7 @@ extern "C" {
 #endif
 
 /* How a call ended. No call answers X509CHECK_PARTY_NOT_FILLED, so a struct of zeros says nothing. Only X509CHECK_PARTY_DONE comes with an
- * answer; of all others the numbers of the answer are 0. */
+ * answer, and X509CHECK_PARTY_CONTRADICTED with the counts of a delivery; of all others the numbers of the answer are 0. */
 enum x509check_party_status {
     X509CHECK_PARTY_NOT_FILLED = 0,
     X509CHECK_PARTY_DONE = 1,
@@ -53,7 +54,14 @@ enum x509check_party_status {
     /* Memory was refused: here, not in the process. A delivery may have been taken all the same. */
     X509CHECK_PARTY_NO_MEMORY = 9,
     /* A value is too long for a line, and the file in which it is handed over cannot be written. */
-    X509CHECK_PARTY_NO_FILE = 10
+    X509CHECK_PARTY_NO_FILE = 10,
+    /* The call is in a process that was forked from the one that opened the party. Nothing was asked. */
+    X509CHECK_PARTY_FORKED = 11,
+    /* A delivery: the issuer signed the statement and another one that is held, with one number or the same times. What was held stays,
+     * and may be the wrong one: find out from the issuer whether a certificate is revoked. What did not contradict was stored. */
+    X509CHECK_PARTY_CONTRADICTED = 12,
+    /* The judge could not tell whether a signature is good. Nothing was asked. */
+    X509CHECK_PARTY_NOT_JUDGED = 13
 };
 
 /* The verdict on a path that is valid, but whose last certificate does not speak for the name that was asked for. It stands beside the
@@ -70,7 +78,9 @@ struct x509check_party_outcome {
     /* X509CHECK_PARTY_UNREADABLE: which text, and its first fault; else all 0. Of a delivery the issuer is the certificate 0, and the
      * statement the statement 0. */
     struct x509check_refusal refusal;
-    char text[X509CHECK_PARTY_TEXT_ROOM]; /* why, in printable ASCII, cut if it is longer; empty if the call is done */
+    /* Why, in printable ASCII, cut if it is longer; empty if the call is done. Certificates are named by what they were handed in as, and
+     * counted from 1 (docs/REFERENCE.md): `anchor`, `certificate 2` of a path, `anchor 3`, `other 1` and `target` of a search. */
+    char text[X509CHECK_PARTY_TEXT_ROOM];
 };
 
 /* How a store took a statement: how many of its facts are newer than what was held, and were stored; how many are not; and how many say
@@ -118,8 +128,10 @@ struct x509check_party_question {
     const uint8_t *fingerprint;      /* X509CHECK_FINGERPRINT_LENGTH octets, only during the call: as x509check_fingerprint writes it */
 };
 
-/* Whether a signature is good: 1 if it is, as of OpenSSL's EVP_DigestVerify; every other answer says that it is not. `context` is what the
- * caller handed in beside the judge. Judges of several threads may be called at a time. */
+/* Whether a signature is good, with the answers of OpenSSL's EVP_DigestVerify: 1 if it is; a negative number if the judge cannot tell, as
+ * when memory is refused; every other number if it is not. A negative one ends the call with X509CHECK_PARTY_NOT_JUDGED. (EVP_DigestVerify
+ * has it also of some signatures that cannot be read.) `context` is what the caller handed in beside the judge. Judges of several threads
+ * may be called at a time. */
 typedef int x509check_party_judge(const struct x509check_party_question *question, void *context);
 
 /* A relying party. */
@@ -157,7 +169,8 @@ struct x509check_party_outcome x509check_party_forget(struct x509check_party *pa
  * the statement that counts under that issuer (x509check_questions) and is not believed; what is good is believed from now on. If the
  * judge is null, only what the caller has believed is good. A statement whose signature is not good is refused by the program.
  *
- * Once the call is done, the store has the statement. A value that does not fit into a line of 2^20 octets is handed over in a file of
+ * Once the call is done, the store has the statement, or a newer one. If it contradicts what is held, the call is not done but
+ * X509CHECK_PARTY_CONTRADICTED. A value that does not fit into a line of 2^20 octets is handed over in a file of
  * its own, which nobody else may read, in the folder that TMPDIR names or else in /tmp. Over a socket it is
  * X509CHECK_PARTY_BAD_REQUEST. */
 struct x509check_party_delivery x509check_party_deliver(struct x509check_party *party, struct x509check_text issuer,
@@ -165,14 +178,19 @@ struct x509check_party_delivery x509check_party_deliver(struct x509check_party *
 
 /* The verdict on a path by what the store holds (RFC 5280, 6.1, and 6.3; RFC 6960, 3.2). `query` is as for x509check_validate; its path
  * has at least one certificate, and its moment lies in the years 0 to 9999. The judge is asked about the signature of each certificate
- * that is not believed yet, as for x509check_party_deliver; it may be null. */
+ * that is not believed yet, as for x509check_party_deliver; it may be null.
+ *
+ * If a purpose is asked for, keyUsage counts too (RFC 5280, 4.2.1.12): a last certificate that has one without a bit for a purpose of
+ * RFC 5280 makes the path X509CHECK_INVALID for rank 14, as if its extKeyUsage did not allow the purpose. */
 struct x509check_party_verdict x509check_party_check(struct x509check_party *party, const struct x509check_query *query,
                                                      x509check_party_judge *judge, void *context);
 
 /* A path to the target, and the verdict on it by what the store holds (RFC 4158). `search` is as for x509check_find, and has at least
  * one anchor; its limits are not looked at, as the program has its own (docs/REFERENCE.md, "find"). `name`, which may be null, is whom
  * the target has to speak for (RFC 9525). The judge is asked about each certificate that leads to the target, as for
- * x509check_party_check.
+ * x509check_party_check, but not if there are more than X509CHECK_SIGNATURES different questions, or names alone say that there are more
+ * than 65,536 with equal ones: then the answer is X509CHECK_GAVE_UP. A target that is not there for the purpose by its keyUsage is
+ * X509CHECK_NOT_FOUND.
  *
  * Up to `room` numbers are written to `path`: the certificates of the path, from the anchor to the target, as indices among those of the
  * search (X509CHECK_CERTIFICATES). X509CHECK_PATH_ROOM suffices for each path. If none is found, x509check_why_not says why. */

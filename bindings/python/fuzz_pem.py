@@ -4,7 +4,8 @@
     fuzz_pem.py [SECONDS] [SEED]
 
 However a file is spoilt, the answer is an error, or it is about the certificate in question and not `valid`. It may be about another
-certificate only if no whole line of that one is left in the file. Each failure is written out with the file, and the status is 1 then.
+certificate only if no whole line of that one is left in the file. Where the certificate in question stands in other clothes than a block, as in
+base64 of other columns or in hexadecimal, the answer is an error. Each failure is written out with the file, and the status is 1 then.
 """
 
 import base64
@@ -83,6 +84,21 @@ def lines_of(octets):
 def block(octets, label="CERTIFICATE"):
     frame = [word + label.encode() + b"-----" for word in (b"-----BEGIN ", b"-----END ")]
     return [frame[0], *lines_of(octets), frame[1]]
+
+
+def dressed(rng, octets):
+    """The lines of a value in other clothes than a block, each of which holds it all the same."""
+    text, width = base64.b64encode(octets), rng.choice([8, 20, 36, 39, 63])
+    columns, digits = [text[at:at + width] for at in range(0, len(text), width)], octets.hex().encode()
+    dash = rng.choice(["\u2013", "\u2014", "\uff0d", "="]).encode()
+    return rng.choice([
+        lambda: columns, lambda: [b"> " + line for line in columns], lambda: [b"<br>".join(columns)],
+        lambda: [dash * 5 + b"BEGIN CERTIFICATE" + dash * 5, *columns, dash * 5 + b"END CERTIFICATE" + dash * 5],
+        lambda: [b'{"x5c": ["' + text + b'"]}'], lambda: [b"tls.crt: " + base64.b64encode(b"\n".join(block(octets)))],
+        lambda: [digits], lambda: [digits.upper()], lambda: [octets.hex(rng.choice(" :-")).encode()],
+        lambda: [digits[at:at + 2 * width] for at in range(0, len(digits), 2 * width)],
+        lambda: [base64.urlsafe_b64encode(octets)], lambda: [b"# " + line for line in columns],
+    ])()
 
 
 class Spoiler:
@@ -200,6 +216,13 @@ def bundle(spoiler, case):
     return spoiler.spoil(lines, Spoiler.STILL), order.index(case.leaf) + 1
 
 
+def clothes(spoiler, case):
+    """A file with the certificate in question in other clothes, beside a block that would be taken for it."""
+    text = dressed(spoiler.random, case.leaf)
+    return spoiler.random.choice([b"\n", b"\r\n"]).join(spoiler.random.choice([
+        text + block(case.middle), block(case.middle) + text, [b"subject=CN = Leaf", *text, b"", *block(case.middle)]])) + b"\n", None
+
+
 def others(spoiler, case):
     """A file with the rest of the chain."""
     if spoiler.random.random() < 0.7:
@@ -214,7 +237,8 @@ def run(seconds, seed, most=None):
     ends, complaints = collections.Counter(), []
     until = time.monotonic() + seconds
     while time.monotonic() < until and (most is None or sum(ends.values()) < most):
-        target, index = spoiler.random.choice([single, bundle])(spoiler, case)
+        way = spoiler.random.choice([single, bundle, clothes])
+        target, index = way(spoiler, case)
         chain = others(spoiler, case)
         try:
             result = case.answer(target, chain, index)
@@ -222,7 +246,7 @@ def run(seconds, seed, most=None):
             ends[type(refusal).__name__] += 1
             continue
         ends[f"{result.verdict.value} {'leaf' if case.digests.get(result.target.sha256) == case.leaf else 'other'}"] += 1
-        complaint = case.complaint(target, result)
+        complaint = case.complaint(target, result) if way is not clothes else "a certificate in other clothes was passed over"
         if complaint is not None:
             complaints.append(f"{complaint}: index {index}, {target!r}")
     return ends, complaints

@@ -25,7 +25,7 @@ from x509check import SignatureQuestion, _crypto_package, _crypto_schemes, _der,
 from x509check.signatures import Judgement, Policy
 
 FIELDS = ("algorithm", "key", "message", "signature")
-LAX = Policy(digests=signatures.SERVED_DIGESTS, minimum_rsa_bits=512)
+LAX = Policy(digests=signatures.SERVED_DIGESTS, minimum_rsa_bits=512, maximum_rsa_bits=16384)
 POLICIES = (LAX, Policy())
 IDENTIFIERS = [_der.contents_of(text) for text in (
     "1.2.840.113549.1.1.1", "1.2.840.113549.1.1.8", "1.2.840.113549.1.1.10", "1.2.840.113549.1.1.11", "1.2.840.113549.1.1.5",

@@ -25,5 +25,9 @@ fn main() {
         env::var_os("CARGO_MANIFEST_DIR").expect("cargo names the folder of the crate"),
     );
     let packaged = here.join("lib");
-    link(&if packaged.is_dir() { packaged } else { here.join("../out") });
+    link(&if packaged.is_dir() {
+        packaged
+    } else {
+        here.join("../out")
+    });
 }

@@ -1,11 +1,13 @@
 """Certificates, lists and responses for the handshakes of ../try, made by OpenSSL's command line in a folder."""
 
 import os
+import re
 import ssl
 import subprocess
 
 FOR_AUTHORITY = "basicConstraints=critical,CA:TRUE\nkeyUsage=critical,keyCertSign,cRLSign\n"
 FOR_SERVER = "subjectAltName=DNS:server.example,DNS:*.wild.example,IP:192.0.2.1,email:post@server.example\nextendedKeyUsage=serverAuth\n"
+FOR_RESPONSES = "extendedKeyUsage=OCSPSigning\nnoCheck=ignored\n"
 FOR_CLIENT = "subjectAltName=email:user@client.example\nextendedKeyUsage=clientAuth\n"
 LISTS = """
 [ca]
@@ -16,6 +18,7 @@ crlnumber = $ENV::INDEX.number
 default_md = sha256
 default_crl_days = 30
 """
+TIME = re.compile(rb"\x18\x0f(\d{14}Z)")
 FOREVER, YESTERDAY = "491231235959Z", "200101000000Z"
 
 
@@ -43,10 +46,10 @@ class Authority:
         if done.returncode:
             raise RuntimeError(f"openssl {' '.join(words)}: {done.stderr.decode(errors='replace')}")
 
-    def key(self, name):
+    def key(self, name, kind=("EC", "ec_paramgen_curve:P-256")):
         path = self.path(f"{name}.key")
         if not os.path.exists(path):
-            self.openssl("genpkey", "-algorithm", "EC", "-pkeyopt", "ec_paramgen_curve:P-256", "-out", path)
+            self.openssl("genpkey", "-algorithm", kind[0], "-pkeyopt", kind[1], "-out", path)
         return path
 
     def certificate(self, name, issuer=None, extensions=FOR_AUTHORITY, *, days=30, subject=None, key=None, digest="sha256", serial=None):
@@ -69,21 +72,29 @@ class Authority:
         self.write(f"{name}.index.attr", "unique_subject = no\n")
         return self.write(f"{name}.index", "".join(lines))
 
-    def list(self, name, issuer, revoked=()):
+    def list(self, name, issuer, revoked=(), *, number=1, days=30, digest="sha256"):
         """A list of the issuer: NAME.crl."""
         index, pem = self.index(name, revoked=revoked), self.path(f"{name}.crl.pem")
-        self.write(f"{name}.index.number", "01\n")
+        self.write(f"{name}.index.number", f"{number:02X}\n")
         self.openssl("ca", "-config", self.write("lists.cnf", LISTS), "-gencrl", "-cert", self.path(f"{issuer}.pem"), "-keyfile",
-                     self.path(f"{issuer}.key"), "-out", pem, INDEX=index)
+                     self.path(f"{issuer}.key"), "-crldays", str(days), "-md", digest, "-out", pem, INDEX=index)
         self.openssl("crl", "-in", pem, "-outform", "DER", "-out", self.path(f"{name}.crl"))
 
-    def response(self, name, issuer, about, revoked=False):
-        """A response of the issuer about one of its certificates: NAME.ocsp."""
+    def response(self, name, issuer, about, revoked=False, *, by=None, digest="sha256"):
+        """A response of the issuer, or of its delegate `by`, about one of its certificates: NAME.ocsp."""
         index = self.index(name, good=() if revoked else (about,), revoked=(about,) if revoked else ())
-        request, authority = self.path(f"{name}.req"), self.path(f"{issuer}.pem")
+        request, authority, signer = self.path(f"{name}.req"), self.path(f"{issuer}.pem"), by or issuer
         self.openssl("ocsp", "-issuer", authority, "-cert", self.path(f"{about}.pem"), "-no_nonce", "-reqout", request)
-        self.openssl("ocsp", "-index", index, "-CA", authority, "-rsigner", authority, "-rkey", self.path(f"{issuer}.key"),
-                     "-reqin", request, "-respout", self.path(f"{name}.ocsp"), "-ndays", "1")
+        self.openssl("ocsp", "-index", index, "-CA", authority, "-rsigner", self.path(f"{signer}.pem"), "-rkey",
+                     self.path(f"{signer}.key"), "-rmd", digest, "-reqin", request, "-respout", self.path(f"{name}.ocsp"), "-ndays", "1")
+
+    def contradicting_responses(self, name, other, issuer, about):
+        """Two responses with the same times, of which the other one revokes: they are made within one second."""
+        while True:
+            self.response(name, issuer, about)
+            self.response(other, issuer, about, revoked=True)
+            if TIME.findall(self.read(f"{name}.ocsp"))[0] == TIME.findall(self.read(f"{other}.ocsp"))[0]:
+                return
 
     def bundle(self, name, *certificates):
         """NAME.pem: certificates one behind the other."""
@@ -103,12 +114,26 @@ def made_in(folder):
     made.certificate("odd", "root", subject="odd", key="middle", serial=1 << 270)
     made.certificate("other", None, subject="root")
     made.certificate("stranger")
+    made.certificate("shouted", None, subject="ROOT")
     made.list("root_list", "root")
     made.list("middle_list", "middle")
     made.list("revoking_list", "middle", revoked=("leaf", "client"))
     made.list("root_revoking_list", "root", revoked=("middle",))
-    made.response("good", "middle", "leaf")
-    made.response("revoked", "middle", "leaf", revoked=True)
+    made.key("delegate", ("RSA", "rsa_keygen_bits:2048"))
+    made.certificate("delegate", "middle", FOR_RESPONSES)
+    made.response("by_delegate", "middle", "leaf", revoked=True, by="delegate")
+    made.list("weak_list", "middle", revoked=("leaf",), digest="sha1")
+    made.list("stranger_list", "stranger", revoked=("leaf",), digest="sha1")
+    made.list("forged_list", "other", revoked=("middle",), number=9)
+    made.list("lapsing_list", "middle", revoked=("leaf",), days=1)
+    made.list("lapsing_good_list", "middle", days=1)
+    made.list("later_list", "middle", number=2)
+    made.contradicting_responses("good", "revoked", "middle", "leaf")
+    made.response("weak", "middle", "leaf", revoked=True, digest="sha1")
+    made.response("weak_of_root", "root", "middle", revoked=True, digest="sha1")    # (with the root's own certificate)
+    make_delegates(made)
+    for bit in ("digitalSignature", "nonRepudiation", "keyEncipherment", "keyAgreement", "keyCertSign"):
+        made.certificate(bit, "middle", f"keyUsage=critical,{bit}\n", key="leaf")
     made.response("of_expired", "middle", "expired")
     # What OpenSSL hands on as it is: a SET where BasicOCSPResponse has a SEQUENCE, and tryLater (RFC 6960, 2.3).
     head, basic = b"\x2b\x06\x01\x05\x05\x07\x30\x01\x01\x04\x82", made.read("good.ocsp")
@@ -123,6 +148,16 @@ def made_in(folder):
     made.bundle("many", *["middle"] * 16)
     made.bundle("too_big", *["middle"] * 400)
     return made
+
+
+def make_delegates(made):
+    """Of the three that say that the leaf is revoked one is a forgery, and of another one nobody can judge the certificate."""
+    made.certificate("weak_delegate", "middle", FOR_RESPONSES, digest="sha1")
+    made.response("by_weak_delegate", "middle", "leaf", revoked=True, by="weak_delegate")
+    made.response("weak_by_delegate", "middle", "leaf", revoked=True, by="delegate", digest="sha1")
+    made.certificate("false_middle", "other", subject="middle")
+    made.certificate("false_delegate", "false_middle", FOR_RESPONSES)
+    made.response("by_false_delegate", "middle", "leaf", revoked=True, by="false_delegate")
 
 
 def make_changed(made):

@@ -10,7 +10,7 @@
 
 #include "x509check_openssl.h"
 
-static const struct x509check_openssl_policy lax = {X509CHECK_OPENSSL_ALL_DIGESTS, X509CHECK_OPENSSL_ALL_CURVES, 512};
+static const struct x509check_openssl_policy lax = {X509CHECK_OPENSSL_ALL_DIGESTS, X509CHECK_OPENSSL_ALL_CURVES, 512, 16384};
 
 static void fail(const char *what)
 {

@@ -32,7 +32,9 @@ struct words {
     size_t host_count;
     int version, depth;
     unsigned flags;
-    bool asks_for_no_response, resumes, clears, looks_away, has_verify_alone;
+    bool asks_for_no_response, resumes, clears, looks_away, has_verify_alone, shares_key, logs_keys;
+    enum { SAME, CHECKED_LATE, SWITCHED, SWITCHED_WITH_MODE, OTHER_STATEMENT } second; /* how the second connection is made */
+    struct x509check_text other;                                                       /* the last statement of the second connection */
     long check_time;
 };
 
@@ -79,6 +81,18 @@ static bool take_flag(struct words *words, const char *name)
         words->clears = true;
     else if (strcmp(name, "alone") == 0)
         words->has_verify_alone = true;
+    else if (strcmp(name, "keylog") == 0)
+        words->logs_keys = true;
+    else if (strcmp(name, "psk") == 0)
+        words->shares_key = true;
+    else if (strcmp(name, "leave") == 0)
+        words->settings.leaves_out_unjudged = true;
+    else if (strcmp(name, "late") == 0)
+        words->second = CHECKED_LATE;
+    else if (strcmp(name, "switch") == 0)
+        words->second = SWITCHED;
+    else if (strcmp(name, "switch-with-mode") == 0)
+        words->second = SWITCHED_WITH_MODE;
     else if (strcmp(name, "nowildcards") == 0)
         words->flags = X509_CHECK_FLAG_NO_WILDCARDS;
     else
@@ -119,7 +133,10 @@ static bool take_file(struct words *words, const char *name, const char *value)
         words->statements[settings->statement_count++] = text_of(value);
     else if (strcmp(name, "purpose") == 0)
         settings->purpose = text_of(value);
-    else
+    else if (strcmp(name, "then") == 0) {
+        words->other = text_of(value);
+        words->second = OTHER_STATEMENT;
+    } else
         return false;
     return true;
 }
@@ -242,9 +259,13 @@ static int use_verify_alone(SSL_CTX *tls, struct words *words)
     return (int)SSL_CTX_set_tlsext_status_type(tls, TLSEXT_STATUSTYPE_ocsp);
 }
 
-static SSL_CTX *checking_tls(struct words *words, bool is_server)
+static void log_nothing(const SSL *ssl, const char *line)
 {
-    SSL_CTX *tls = must(SSL_CTX_new(is_server ? TLS_server_method() : TLS_client_method()), "SSL_CTX");
+    (void)ssl, (void)line;
+}
+
+static void check_by(SSL_CTX *tls, struct words *words, bool is_server)
+{
     struct x509check_refusal refusal = {0};
     int is_used = is_server                 ? x509check_openssl_use_in_server(tls, &words->settings, &refusal)
                   : words->has_verify_alone ? use_verify_alone(tls, words)
@@ -254,23 +275,59 @@ static SSL_CTX *checking_tls(struct words *words, bool is_server)
         printf("not used: %u %zu %u\n", (unsigned)refusal.text, refusal.index, (unsigned)refusal.fault);
         exit(0);
     }
+    if (words->asks_for_no_response)
+        SSL_CTX_set_tlsext_status_type(tls, -1);
+    if (words->looks_away)
+        SSL_CTX_set_verify(tls, SSL_VERIFY_NONE, NULL);
+    if (words->logs_keys)
+        SSL_CTX_set_keylog_callback(tls, log_nothing);
+}
+
+/* A key for whoever names one, so that no certificate is needed. */
+static unsigned give_key(SSL *ssl, const char *identity, unsigned char *key, unsigned room)
+{
+    (void)ssl, (void)identity;
+    if (room < 3)
+        return 0;
+    memcpy(key, "key", 3);
+    return 3;
+}
+
+/* An SSL_CTX that checks nobody yet, whose sessions may be resumed: those of a server are in its cache. */
+static SSL_CTX *plain_tls(const struct words *words, bool is_server)
+{
+    SSL_CTX *tls = must(SSL_CTX_new(is_server ? TLS_server_method() : TLS_client_method()), "SSL_CTX");
+
+    SSL_CTX_set_session_id_context(tls, (const unsigned char *)"tls_peer", 8);
+    if (is_server)
+        SSL_CTX_set_options(tls, SSL_OP_NO_TICKET);
+    SSL_CTX_set_min_proto_version(tls, words->version);
+    SSL_CTX_set_max_proto_version(tls, words->version);
+    SSL_CTX_set_info_callback(tls, print_alert);
+    if (words->shares_key)
+        SSL_CTX_set_psk_server_callback(tls, give_key);
+    if (words->ciphers != NULL && SSL_CTX_set_cipher_list(tls, words->ciphers) != 1)
+        must(NULL, "ciphers");
     return tls;
 }
 
 static SSL_CTX *tls_of(struct words *words, bool is_server)
 {
-    SSL_CTX *tls = checking_tls(words, is_server);
+    SSL_CTX *tls = plain_tls(words, is_server);
 
-    if (words->asks_for_no_response)
-        SSL_CTX_set_tlsext_status_type(tls, -1);
-    if (words->looks_away)
-        SSL_CTX_set_verify(tls, SSL_VERIFY_NONE, NULL);
-    SSL_CTX_set_min_proto_version(tls, words->version);
-    SSL_CTX_set_max_proto_version(tls, words->version);
-    SSL_CTX_set_info_callback(tls, print_alert);
-    if (words->ciphers != NULL && SSL_CTX_set_cipher_list(tls, words->ciphers) != 1)
-        must(NULL, "ciphers");
+    check_by(tls, words, is_server);
     return tls;
+}
+
+/* By other settings, as it has to be for a new statement. */
+static SSL_CTX *tls_with_other_statement(const struct words *words, bool is_server)
+{
+    static struct words others;
+
+    others = *words;
+    others.settings.statements = others.statements;
+    others.statements[others.settings.statement_count - 1] = words->other;
+    return tls_of(&others, is_server);
 }
 
 static struct sockaddr_in loopback(int port)
@@ -292,58 +349,124 @@ static void connect_once(SSL *ssl, const struct words *words, int port)
 }
 
 /* Connects once more: with the session of the first connection, or with its SSL, whose server need show no certificate now. */
-static SSL *connect_again(SSL *first, const struct words *words, int port)
+static void connect_again(SSL *first, SSL_CTX *tls, const struct words *words, int port)
 {
     SSL *ssl = first;
 
     puts("again");
-    if (words->resumes) {
-        ssl = must(SSL_new(SSL_get_SSL_CTX(first)), "SSL");
+    if (!words->clears) {
+        ssl = must(SSL_new(tls), "SSL");
         SSL_set_session(ssl, SSL_get0_session(first));
         SSL_free(first);
     } else if (SSL_clear(ssl) != 1 || SSL_set_cipher_list(ssl, "ADH:@SECLEVEL=0") != 1) {
         must(NULL, "SSL_clear");
     }
     connect_once(ssl, words, port);
-    return ssl;
+    SSL_free(ssl);
 }
 
 static void be_client(struct words *words, int port)
 {
-    SSL_CTX *tls = tls_of(words, false);
+    SSL_CTX *tls = words->second == CHECKED_LATE ? plain_tls(words, false) : tls_of(words, false), *second = tls;
     SSL *ssl = must(SSL_new(tls), "SSL");
 
     connect_once(ssl, words, port);
+    if (words->second == CHECKED_LATE)
+        second = tls_of(words, false);
+    if (words->second == OTHER_STATEMENT)
+        second = tls_with_other_statement(words, false);
     if (words->resumes || words->clears)
-        ssl = connect_again(ssl, words, port);
-    SSL_free(ssl);
+        connect_again(ssl, second, words, port);
+    else
+        SSL_free(ssl);
+    if (second != tls)
+        SSL_CTX_free(second);
     SSL_CTX_free(tls);
+}
+
+static SSL_CTX *switched_to;
+
+/* As a server does that chooses by the name that it is asked for. */
+static int switch_context(SSL *ssl, int *alert, void *words)
+{
+    (void)alert;
+    if (switched_to != NULL)
+        SSL_set_SSL_CTX(ssl, switched_to);
+    if (switched_to != NULL && ((const struct words *)words)->second == SWITCHED_WITH_MODE)
+        SSL_set_verify(ssl, SSL_CTX_get_verify_mode(switched_to), NULL);
+    return SSL_TLSEXT_ERR_OK;
+}
+
+static SSL_CTX *first_of_server(struct words *words)
+{
+    SSL_CTX *tls;
+
+    if (words->second == SAME || words->second == OTHER_STATEMENT)
+        return tls_of(words, true);
+    tls = plain_tls(words, true);
+    SSL_CTX_set_tlsext_servername_callback(tls, switch_context);
+    SSL_CTX_set_tlsext_servername_arg(tls, words);
+    return tls;
+}
+
+/* What the second connection of a server is made by. */
+static SSL_CTX *second_of_server(SSL_CTX *first, struct words *words)
+{
+    switch (words->second) {
+    case CHECKED_LATE:
+        check_by(first, words, true);
+        return first;
+    case SWITCHED:
+    case SWITCHED_WITH_MODE:
+        switched_to = tls_of(words, true);
+        return first;
+    case OTHER_STATEMENT:
+        SSL_CTX_free(first);
+        return tls_with_other_statement(words, true);
+    default:
+        return first;
+    }
+}
+
+static void show_certificate(SSL_CTX *tls, const char *certificate, const char *key)
+{
+    if (SSL_CTX_use_certificate_chain_file(tls, certificate) != 1 || SSL_CTX_use_PrivateKey_file(tls, key, SSL_FILETYPE_PEM) != 1)
+        must(NULL, certificate);
+}
+
+static void accept_once(SSL_CTX *tls, const struct words *words, int listener)
+{
+    int connection = accept(listener, NULL, NULL);
+    SSL *ssl = must(SSL_new(tls), "SSL");
+
+    set_names(ssl, words);
+    SSL_set_accept_state(ssl);
+    talk(ssl, connection);
+    SSL_free(ssl);
+    close(connection);
 }
 
 static void be_server(struct words *words, const char *certificate, const char *key)
 {
-    SSL_CTX *tls = tls_of(words, true);
+    SSL_CTX *tls = first_of_server(words);
     struct sockaddr_in address = loopback(0);
     socklen_t length = sizeof address;
     int listener = socket(AF_INET, SOCK_STREAM, 0);
 
-    if (SSL_CTX_use_certificate_chain_file(tls, certificate) != 1 || SSL_CTX_use_PrivateKey_file(tls, key, SSL_FILETYPE_PEM) != 1)
-        must(NULL, certificate);
+    show_certificate(tls, certificate, key);
     if (bind(listener, (struct sockaddr *)&address, length) != 0 || listen(listener, 1) != 0)
         must(NULL, "listen");
     getsockname(listener, (struct sockaddr *)&address, &length);
     printf("port %d\n", ntohs(address.sin_port));
-    for (int rest = words->resumes ? 2 : 1; rest > 0; rest--) {
-        int connection = accept(listener, NULL, NULL);
-        SSL *ssl = must(SSL_new(tls), "SSL");
-
-        set_names(ssl, words);
-        SSL_set_accept_state(ssl);
-        talk(ssl, connection);
-        SSL_free(ssl);
-        close(connection);
+    accept_once(tls, words, listener);
+    if (words->resumes) {
+        tls = second_of_server(tls, words);
+        show_certificate(switched_to == NULL ? tls : switched_to, certificate, key);
+        puts("again");
+        accept_once(tls, words, listener);
     }
     close(listener);
+    SSL_CTX_free(switched_to);
     SSL_CTX_free(tls);
 }
 
@@ -371,5 +494,6 @@ int main(int argc, char **argv)
     free_texts(words->helpers, words->settings.helper_count);
     free_texts(words->statements, words->settings.statement_count);
     free((void *)words->settings.purpose.octets);
+    free((void *)words->other.octets);
     return 0;
 }

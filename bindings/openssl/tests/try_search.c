@@ -109,7 +109,7 @@ static void try_policies(void)
     policy = (struct x509check_openssl_policy){0};
     EXPECT(x509check_openssl_judge_search(&search, statements, 2, &policy, &judged) == X509CHECK_OPENSSL_BAD_POLICY);
     x509check_openssl_free(&judged);
-    policy = (struct x509check_openssl_policy){1u << 5, 0, 2048};
+    policy = (struct x509check_openssl_policy){1u << 5, 0, 2048, 0};
     EXPECT(x509check_openssl_judge_search(&search, statements, 2, &policy, &judged) == X509CHECK_OPENSSL_BAD_POLICY);
     x509check_openssl_free(&judged);
 }

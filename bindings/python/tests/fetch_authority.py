@@ -65,13 +65,14 @@ class Authority:
                      "-days", "20", "-extfile", self.write("extensions", extensions), "-out", f"{name}.pem")
         return self.der(name)
 
-    def revocation_list(self, name, number=1, revoked=(), point=None):
+    def revocation_list(self, name, number=1, revoked=(), point=None, digest="sha256"):
         """The DER of a list of the authority, with the serial numbers of certificates in it; of its whole list, or of that of a point."""
         self.write(f"{name}.conf", CONFIG.format(name=name) + ("" if point is None else AT_POINT.format(point=point)))
         self.write(f"{name}.number", f"{number:04X}\n")
         self.write(f"{name}.index",
                    "".join(f"R\t301231000000Z\t261101000000Z,keyCompromise\t{serial:04X}\tunknown\t/CN=x\n" for serial in revoked))
-        self.openssl("ca", "-gencrl", "-config", f"{name}.conf", "-cert", f"{name}.pem", "-keyfile", self.key(name), "-out", f"{name}.crl")
+        self.openssl("ca", "-gencrl", "-config", f"{name}.conf", "-cert", f"{name}.pem", "-keyfile", self.key(name), "-md", digest, "-out",
+                     f"{name}.crl")
         return self.openssl("crl", "-in", f"{name}.crl", "-outform", "DER")
 
     def response(self, request, issuer, index):

@@ -2,8 +2,10 @@
 
 import base64
 import contextlib
+import json
 import os
 import random
+import shutil
 import ssl
 import subprocess
 import sys
@@ -16,6 +18,7 @@ from unittest import mock
 import fuzz_locations
 from x509check import Certificate, Kind, Party, Profile, RevocationReason, Result, Verdict
 from x509check import _der, _http, _ocsp, _statement_times, fetch
+from x509check._held import HeldList
 from x509check.fetch import (
     BadLocations, BadMemory, Client, Fetched, Fetcher, HttpLimits, Memory, NotFetched, NotServed, Outcome, Schedule, Validators, is_public,
     locations_of,
@@ -324,17 +327,27 @@ class WhenToComeAgain(unittest.TestCase):
 class OfMemory(InFolder):
     def test_kept_and_spoilt(self):
         memory, issuer, other = Memory(), Certificate.from_der(authority.ROOT), Certificate.from_der(authority.MIDDLE)
-        memory.note("http://x/", issuer, Validators('"1"', None), 5)
-        memory.note("http://y/", issuer, Validators(), 5)
+        held = HeldList("00" * 32, "all", 2**160 - 1, 5, 9, 0)
+        memory.note("http://x/", issuer, Validators('"1"', None), held, 7)
+        memory.note("http://y/", issuer, Validators(), held, 7)
+        memory.note("http://z/", issuer, Validators('"1"', None), held, 7)
+        memory.note("http://z/", issuer, Validators('"2"', None), None, 8)
         memory.save(self.file("memory"))
         read = Memory.load(self.file("memory"))
-        self.assertEqual(read.of("http://x/", issuer), (Validators('"1"', None), 5))
+        noted = read.of("http://x/", issuer)
+        self.assertEqual(noted, (Validators('"1"', None), 2**160 - 1, 5, 9, 7))
+        self.assertEqual([noted.is_held([one]) for one in (held, *(held._replace(**{name: 6}) for name in ("number", "since", "until")))],
+                         [True, False, False, False])
         for url, it in (("http://x/", other), ("http://y/", issuer), ("http://z/", issuer)):
-            self.assertEqual(read.of(url, it), (Validators(), None))
+            self.assertIsNone(read.of(url, it))
         self.assertEqual(os.listdir(self.folder), ["memory"])
+        # What version 1.0.0 noted does not say which list it is about.
+        with open(self.file("memory"), "w", encoding="ascii") as file:
+            json.dump([[f"{issuer.identity.sha256} http://x/", '"1"', None, 5]], file)
+        self.assertIsNone(Memory.load(self.file("memory")).of("http://x/", issuer))
         for text in ("", "{}x", "[1]", '["a"]', '[["a", "b", "c"]]', '[["a", 1, null, null]]', '[[1, "b", null, null]]',
                      '[["a", "b", null, true]]',
-                     '[["a", "b", null, "5"]]', "null", "5", '{"a": 1}', "[" * 100_000):
+                     '[["a", "b", null, "5"]]', '[["a", "b", null, 1, 2, 3]]', '[["a", "b", null, 1, 2, 3, null]]', "null", "5", '{"a": 1}', "[" * 100_000):
             with open(self.file("memory"), "w", encoding="ascii") as file:
                 file.write(text)
             with self.subTest(text[:40]), self.assertRaises(BadMemory):
@@ -389,7 +402,7 @@ class ForAParty(WithWeb):
     def told(self, report):
         return [(one.outcome.value, one.kind.value, one.url.replace(self.web.url, "")) for one in report.fetched]
 
-    def test_all_is_taken_and_then_unchanged(self):
+    def test_all_is_taken_and_again(self):
         report = self.fetcher.fetch([self.leaf, self.issuer], [self.root])
         self.assertEqual(self.told(report), [
             ("taken", "list", "/root.crl"), ("not served", "list", "ldap://x.example/issuer.crl"), ("not fetched", "list", "/gone.crl"),
@@ -403,10 +416,10 @@ class ForAParty(WithWeb):
         self.assertAlmostEqual(report.again, now + 900, delta=60)
         self.assertIn(f"not fetched list {self.web.url}/gone.crl: answered 404", str(report.fetched[2]))
         report = self.fetcher.fetch([self.leaf, self.issuer], [self.root])
-        self.assertEqual(self.told(report)[0], ("unchanged", "list", "/root.crl"))
+        self.assertEqual(self.told(report)[0], ("taken", "list", "/root.crl"))
         self.assertAlmostEqual(report.fetched[0].until, now + week, delta=60)
         # (a response that is made a second later is newer, and stored)
-        self.assertEqual([one.delivery.kept + one.delivery.stored for one in report.fetched if one.outcome is Outcome.TAKEN], [1])
+        self.assertEqual([one.delivery.kept + one.delivery.stored for one in report.fetched if one.outcome is Outcome.TAKEN], [1, 1, 1])
         for it in (report, report.fetched[0], Outcome.TAKEN):
             with self.assertRaises(TypeError):
                 bool(it)
@@ -424,6 +437,59 @@ class ForAParty(WithWeb):
         report = self.fetcher.fetch([self.leaf, self.issuer], [self.root], responses=False)
         self.assertEqual(report.result, Result(Verdict.REVOKED, 2, RevocationReason.KEY_COMPROMISE))
         self.assertNotIn("/ocsp", " ".join(self.web.paths()))
+
+    def fetched(self, fetcher=None):
+        """What becomes of the lists, and the verdict."""
+        report = (fetcher or self.fetcher).fetch([self.leaf, self.issuer], [self.root], responses=False)
+        asked = {f"{self.web.url}/{name}.crl" for name in ("root", "issuer")}
+        return [one.outcome.value for one in report.fetched if one.url in asked], report.result.verdict
+
+    @unittest.skip("the program has no `list` in a session yet")
+    def test_what_was_noted_counts_only_for_a_store_that_holds_it(self):
+        """As of a store that was made anew or restored, which holds nothing, or an older list."""
+        self.assertEqual(self.fetched(), (["taken", "taken"], Verdict.VALID))
+        self.assertEqual(self.fetched(), (["unchanged", "unchanged"], Verdict.VALID))
+        with Party(self.file("new"), program=PROGRAM) as party:
+            fetcher = Fetcher(party, self.client, memory=self.fetcher.memory)
+            self.assertEqual(self.fetched(fetcher), (["taken", "taken"], Verdict.VALID))
+        shutil.copyfile(self.file("new"), self.file("older"))
+        self.web.has("/issuer.crl", self.made.revocation_list("Issuer", 2, [self.leaf_serial]), ETag='"issuer 2"')
+        self.assertEqual(self.fetched(), (["unchanged", "taken"], Verdict.REVOKED))
+        with Party(self.file("older"), program=PROGRAM) as party:
+            fetcher = Fetcher(party, self.client, memory=self.fetcher.memory)
+            self.assertEqual(self.fetched(fetcher), (["unchanged", "taken"], Verdict.REVOKED))
+
+    @unittest.skip("the program has no `list` in a session yet")
+    def test_a_list_is_asked_for_whole_at_times(self):
+        """Somebody on the way sent an older list under the name of the newest."""
+        self.web.has("/issuer.crl", self.made.revocation_list("Issuer"), ETag='"issuer 2"')
+        self.assertEqual(self.fetched(), (["taken", "taken"], Verdict.VALID))
+        self.web.has("/issuer.crl", self.made.revocation_list("Issuer", 2, [self.leaf_serial]), ETag='"issuer 2"')
+        self.assertEqual(self.fetched(), (["unchanged", "unchanged"], Verdict.VALID), "nobody can tell yet")
+        now = time.time()
+        for later in (86_401, -60):    # (also if the clock went back)
+            with mock.patch.object(fetch.time, "time", lambda later=later: now + later):
+                self.assertEqual(self.fetched()[0][1], "taken")
+
+    def test_a_statement_that_contradicts_a_held_one(self):
+        self.assertEqual(self.fetched(), (["taken", "taken"], Verdict.VALID))
+        for revoked, is_alarm in ((self.leaf_serial + 7, False), (self.leaf_serial, True)):
+            self.web.has("/issuer.crl", self.made.revocation_list("Issuer", 1, [revoked]), ETag=f'"{revoked}"')
+            report = self.fetcher.fetch([self.leaf, self.issuer], [self.root], responses=False)
+            last = report.fetched[-1]
+            self.assertEqual((last.outcome, last.is_alarm, last.until), (Outcome.CONTRADICTED, is_alarm, None))
+            self.assertEqual(("ALARM" in str(last), "contradicted 1" in str(last)), (is_alarm, True))
+            self.assertEqual(report.result.verdict, Verdict.UNKNOWN if is_alarm else Verdict.VALID)
+        # What is newer than both is taken, and decides.
+        self.web.has("/issuer.crl", self.made.revocation_list("Issuer", 2))
+        self.assertEqual(self.fetched()[0][1:], ["taken"])
+        self.assertEqual(self.fetched()[1], Verdict.VALID)
+        self.party.close()
+        words = ["--store", "store", "--verdicts", "good", "--anchor", "Root.pem", "--issuer", "Issuer.pem", "--allow-private", "--no-ocsp"]
+        for revoked, status, verdict in ((self.leaf_serial, 8, "unknown:"), (self.leaf_serial + 7, 1, "valid:")):
+            self.web.has("/issuer.crl", self.made.revocation_list("Issuer", 2, [revoked]))
+            found, lines, err = self.run_script(*words, "Leaf.pem")
+            self.assertEqual((found, [line.split(" ")[0] for line in lines]), (status, ["taken", "not", "not", "contradicted", verdict, "again"]), err)
 
     def test_an_issuer_that_is_missing(self):
         report = self.fetcher.fetch([self.leaf], [self.root], lists=False)
@@ -568,7 +634,7 @@ class ForAParty(WithWeb):
         self.assertEqual([line.split(" ")[0] for line in lines], ["taken", "taken", "not", "not", "taken", "valid:", "again"])
         self.assertEqual(self.made.openssl("x509", "-in", "more.pem", "-outform", "DER"), self.issuer)
         status, lines, err = self.run_script(*words, "--no-ocsp", "--issuer", "more.pem", "Leaf.pem")
-        self.assertEqual([line.split(" ")[0] for line in lines], ["unchanged", "not", "not", "unchanged", "valid:", "again"])
+        self.assertEqual([line.split(" ")[0] for line in lines], ["taken", "not", "not", "taken", "valid:", "again"])
         # What it left serves the program.
         for name in ("Root", "Issuer", "Leaf"):
             with open(self.file(f"{name}.der"), "wb") as file:
@@ -595,7 +661,7 @@ class ForAParty(WithWeb):
             try:
                 self.assertEqual(served.stderr.readline(), "party: listening\n")
                 words = ["--connect", "socket", "--memory", "memory", "--anchor", "Root.pem", "--allow-private", "Leaf.pem"]
-                for wanted in ("taken", "unchanged"):
+                for wanted in ("taken", "taken"):
                     status, lines, err = self.run_script(*words)
                     self.assertEqual((status, err), (1, ""))
                     self.assertEqual([line.split(" ")[0] for line in lines],

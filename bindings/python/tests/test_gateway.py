@@ -12,6 +12,7 @@ import socket
 import subprocess
 import sys
 import threading
+import time
 import unittest
 from unittest import mock
 
@@ -19,7 +20,7 @@ from x509check import Certificate, Party, Result, Verdict
 
 from . import authority
 from .authority import GOOD_PRINTS, LEAF, MIDDLE, MIDDLE_LIST, REVOKING_LIST, ROOT, ROOT_LIST
-from .fetch_authority import Authority
+from .fetch_authority import FOR_SERVER, Authority
 from .test_loading import KEY, pem
 from .test_party import AT, PROGRAM, InFolder
 from .test_party_server import Served
@@ -86,8 +87,8 @@ class OverTheProgram(Calls):
         self.serve()
         leaf = str(Certificate.from_der(LEAF).identity)
         self.ends(Ends.TEMPFAIL, f"unknown: {leaf}", SENT)
-        self.ends(Ends.VALID, f"unknown: {leaf}", SENT, "--accept-unknown", holds="--accept-unknown")
-        self.ends(Ends.VALID, f"unknown: {leaf}", SENT, "--accept-unknown", "--name", "www.example")
+        for words in (["--accept-unknown"], ["--accept-unknown", "--name", "www.example"]):
+            self.ends(Ends.TEMPFAIL, f"unknown: {leaf}", SENT, *words, holds="what is held of its issuer cannot be told")
         self.ends(Ends.REJECTED, f"unknown: {leaf}", SENT, "--accept-unknown", "--name", "mx.example", holds="does not speak for that name")
         self.deliver((ROOT, ROOT_LIST), (MIDDLE, MIDDLE_LIST))
         self.ends(Ends.VALID, f"valid: {leaf}", SENT, "--purpose", "serverAuth", "--name", "www.example")
@@ -101,6 +102,32 @@ class OverTheProgram(Calls):
         self.deliver((MIDDLE, REVOKING_LIST))
         self.ends(Ends.REJECTED, f"revoked (key compromise): {leaf}", SENT)
         self.ends(Ends.REJECTED, f"revoked (key compromise): {leaf}", SENT, "--accept-unknown")
+
+    @unittest.skip("the program has no `list` in a session yet")
+    def test_a_list_that_has_ended_and_revoked_keeps_the_door_shut(self):
+        self.serve()
+        later, leaf = ["--at", "2027-01-01T00:00:00Z", "--accept-unknown"], str(Certificate.from_der(LEAF).identity)
+        self.ends(Ends.VALID, f"unknown: {leaf}", SENT, *later, holds="no list of its issuer is held")
+        self.deliver((ROOT, ROOT_LIST), (MIDDLE, MIDDLE_LIST))
+        self.ends(Ends.VALID, f"unknown: {leaf}", SENT, *later, holds="what is held of its issuer ended at 2026-12-")
+        self.deliver((MIDDLE, REVOKING_LIST))
+        self.ends(Ends.TEMPFAIL, f"unknown: {leaf}", SENT, *later, holds="revoked a certificate of the path")
+
+    def test_a_statement_that_contradicts_a_held_one_is_an_alarm(self):
+        self.serve()
+        made = Authority(self.folder)
+        root, target = made.root(), made.certificate("Server", "Root", FOR_SERVER)
+        first, second = made.revocation_list("Root", 1), made.revocation_list("Root", 1, [made.serial])
+        words = ["--at", "now", "--accept-unknown"]
+        sent, anchor = pem(target), ["--anchor", made.path("Root.pem")]
+        with Party.connect(self.socket) as party:
+            self.assertEqual(str(party.deliver(root, first)), "stored 1 kept 0 contradicted 0")
+            self.ends(Ends.VALID, "valid: ", sent, *words, anchors=anchor)
+            self.assertEqual(str(party.deliver(root, second)), "stored 0 kept 0 contradicted 1")
+            self.ends(Ends.TEMPFAIL, "ALARM: ", sent, *words, anchors=anchor, holds="contradicted: ")
+            # What is newer than both decides.
+            self.assertEqual(str(party.deliver(root, made.revocation_list("Root", 2))), "stored 1 kept 0 contradicted 0")
+            self.ends(Ends.VALID, "valid: ", sent, *words, anchors=anchor)
 
     def test_the_bounds(self):
         self.serve()
@@ -140,7 +167,9 @@ class OverTheProgram(Calls):
         self.deliver((ROOT, ROOT_LIST), (MIDDLE, MIDDLE_LIST))
         with open("/dev/full", "wb") as full:
             done = subprocess.run(self.words(), input=SENT, stdout=full, stderr=subprocess.PIPE, check=False, timeout=SECONDS)
-        self.assertEqual(done.returncode, Ends.TEMPFAIL, done.stderr)
+            self.assertEqual(done.returncode, Ends.TEMPFAIL, done.stderr)
+            done = subprocess.run(self.words(), input=SENT, stdout=full, stderr=full, check=False, timeout=SECONDS)
+            self.assertEqual(done.returncode, Ends.TEMPFAIL)
 
     def test_a_party_that_was_ended(self):
         served = self.serve()
@@ -208,7 +237,9 @@ class WithoutAParty(Calls):
 
         def blocked():
             signal.pthread_sigmask(signal.SIG_BLOCK, [signal.SIGALRM])
-        self.ends(Ends.TEMPFAIL, "no answer on ", SENT, "--seconds", "3", holds="within 3 seconds", preexec_fn=blocked)
+        begun = time.monotonic()
+        self.ends(Ends.TEMPFAIL, "no answer on ", SENT, "--seconds", "5", holds="within 5 seconds", preexec_fn=blocked)
+        self.assertLess(time.monotonic() - begun, 9, "not twice as long")
 
     def test_answers_that_are_none(self):
         for answers in ((b"0 valid\n",), (b"0 believed\n", b"0 believed\n", b"0 1\nvalid\n"), (b"0 believed\n", b"0 believed\n", b"0 0\n"),
@@ -270,8 +301,12 @@ class InProcess(InFolder):
         for more, differing in (([], {}), (["--accept-unknown"], {Verdict.UNKNOWN: 0}),
                                 (["--accept-unknown", "--name", "mx.example"], {Verdict.UNKNOWN: 1})):
             words = it.words_of(["--connect", "x", *ANCHOR, *more])
-            found = {verdict: it.outcome_on(words, Result(verdict, target=leaf.identity), leaf).status for verdict in Verdict}
-            self.assertEqual(found, {**wanted, **differing})
+            results = {verdict: Result(verdict, target=leaf.identity) for verdict in Verdict}
+            for is_shut in (False, True):
+                results[Verdict.UNKNOWN] = it.Unknown(Result(Verdict.UNKNOWN, target=leaf.identity), "what is held", is_shut)
+                found = {verdict: it.outcome_on(words, result, leaf).status for verdict, result in results.items()}
+                shut = {Verdict.UNKNOWN: 75} if is_shut and differing == {Verdict.UNKNOWN: 0} else {}
+                self.assertEqual(found, {**wanted, **differing, **shut})
 
     def test_spoilt_input(self):
         """Whatever was sent, it is certificates or a rejection."""

@@ -209,6 +209,49 @@ class Blocks(Refusing):
         begin, *body, end = pem(LEAF).splitlines()
         self.refused(b"\n".join([begin, *body, end + begin, *body, end]), len(body) + 2, "looks like one")
 
+    def test_values_in_other_clothes(self):
+        """Text outside of blocks is passed over only if it holds none."""
+        def columns(octets, width):
+            text = base64.b64encode(octets).decode()
+            return [text[at:at + width] for at in range(0, len(text), width)]
+        for one in (LEAF, ROOT_LIST, RESPONSE):
+            text = base64.b64encode(one).decode()
+            fences = [f"{5 * dash}{word} CERTIFICATE{5 * dash}" for dash in "\u2013\uff0d" for word in ("BEGIN", "END")]
+            rows = {
+                "36 columns": "\n".join(columns(one, 36)), "8 columns": "\n".join(columns(one, 8)), "in words": f"it is {' '.join(columns(one, 9))}.",
+                "dashes": "\n".join([fences[0], *columns(one, 36), fences[1]]), "wide": "\n".join([fences[2], *columns(one, 36), fences[3]]),
+                "hexadecimal": one.hex(), "capitals": one.hex().upper(), "colons": one.hex(":"),
+                "short": "\n".join(one[at:at + 16].hex(" ", 2) for at in range(0, len(one), 16)),
+                "C": ", ".join(f"0x{octet:02x}" for octet in one), "escaped": "".join(f"\\x{octet:02x}" for octet in one),
+                "br": "<br>".join(columns(one, 64)), "tags": "".join(f"<p class='x'>{line}</p>\n" for line in columns(one, 24)),
+                "quoted": "\n".join(f"> {line}" for line in columns(one, 64)), "twice": "\n".join(f">> {line}" for line in columns(one, 20)),
+                "comment": "\n".join(f"# {line}" for line in columns(one, 64)), "x5c": f'{{"x5c": ["{text}"]}}',
+                "JSON": repr({"certificate": pem(one).decode()}), "URL": base64.urlsafe_b64encode(one).decode(),
+                **{f"PEM {shift}": f"  tls.crt: {base64.b64encode(b'x' * shift + pem(one)).decode()}" for shift in range(3)},
+            }
+            for what, clothes in rows.items():
+                for at, whole in ((1, f"{clothes}\n".encode() + pem(MIDDLE)), (1 + len(pem(MIDDLE).splitlines()), pem(MIDDLE) + clothes.encode()),
+                                  (2, f"a certificate:\n{clothes}\nand no more\n".encode() + pem(MIDDLE))):
+                    with self.subTest(what, first=one[4]), self.assertRaises(NotLoaded) as caught:
+                        x509check.load(whole)
+                    self.assertGreaterEqual(caught.exception.line or 0, at, what)
+
+    def test_prose_stays_prose(self):
+        whole = pem(LEAF)
+        for words in (["x509", "-text"], ["x509", "-text", "-certopt", "ext_dump"], ["x509", "-fingerprint", "-sha512", "-modulus", "-serial", "-dates"]):
+            told = subprocess.run(["openssl", *words], input=whole, stdout=subprocess.PIPE, check=True).stdout
+            self.assertEqual(octets(x509check.load(told)), [LEAF], words)
+        told = subprocess.run(["openssl", "crl", "-text"], input=pem(ROOT_LIST, "X509 CRL"), stdout=subprocess.PIPE, check=True).stdout
+        self.assertEqual(octets(x509check.load(told)), [ROOT_LIST])
+        for text in (
+            "##\n## Bundle of CA Root Certificates\n## SHA256: " + "3082" * 16 + "\n##\n\nGlobalSign Root CA\n==================\n",
+            "Bag Attributes\n    localKeyID: 30 82 01 02 30 81 99\nsubject=C = US, O = MIGHTY & MIMIC\n",
+            "dn: cn=x,o=y\nobjectClass: pkiCA\ncn:: TUlJQg==\n", "    Signature Value:\n        30:81:88:02:42:01:aa:bb:cc:dd:30:82:01:0a:02:82\n",
+            "0000 - 4b 7c 30 82 01 02 03 04-05 06 07 08 09 0a 0b 0c   K|0.............\n", "MIIGRATION of MIGRANTS, MIQ MIH MII\n",
+        ):
+            with self.subTest(text):
+                self.assertEqual(octets(x509check.load(text.encode() + whole)), [LEAF])
+
     def test_der_and_pem_in_one_file(self):
         for text in (LEAF + b"\n" + pem(MIDDLE), pem(MIDDLE) + LEAF, b"\0\n" + pem(MIDDLE)):
             self.refused(text, None, "no text")

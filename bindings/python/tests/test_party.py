@@ -6,19 +6,20 @@ import gc
 import json
 import os
 import random
+import select
 import shutil
 import signal
+import subprocess
 import sys
 import tempfile
 import threading
 import time
 import unittest
 import warnings
-from unittest import mock
 
 import x509check
 from x509check import (
-    Answer, BadReference, Certificate, Fault, Garbled, Judgement, Party, PartyEnded, PartyLimits, Profile, Reason, Refused, Result,
+    Answer, BadReference, Certificate, Fault, Forked, Garbled, Judgement, Party, PartyEnded, PartyLimits, Profile, Reason, Refused, Result,
     RevocationReason, TimeIsUp, Verdict, WhyNot,
 )
 from x509check import _der, _lines
@@ -323,6 +324,27 @@ class OverTheProgram(InFolder):
             self.assertEqual(party.ask(line), Answer(5, said))
         self.assertEqual(party.check(ROOT, [MIDDLE], 0), Result(Verdict.INVALID, 1, Reason.SIGNATURE))
 
+    def test_each_request_that_is_documented(self):
+        ask_all_that_is_documented(self, self.party())
+
+    def test_files_in_lines(self):
+        party = self.party(verdicts=authority.GOOD)
+        os.mkfifo(self.file("pipe"))
+        regular = self.file("root.der")
+        with open(regular, "wb") as file:
+            file.write(ROOT)
+        begun = time.monotonic()
+        for name in ("/dev/stdin", "/proc/self/fd/0", "/dev\\2fzero", self.file("pipe"), self.folder):
+            for line in (f"deliver {name} hex:30", f"deliver hex:30 {name}", f"check {ASKED} {name} hex:30",
+                         f"check {ASKED} purpose=1.2.3 policy=1.2.3 {name} hex:30", f"check {ASKED} hex:30 {name}",
+                         f"find {ASKED} {name} hex:30", f"find {ASKED} name=x hex:30 {name} hex:30", f"prints cert {name} hex:30",
+                         f"prints parts search {name} hex:30"):
+                with self.subTest(line), self.assertRaises(ValueError):
+                    party.ask(line)
+        self.assertLess(time.monotonic() - begun, 5)
+        self.assertEqual(party.ask(f"deliver nothing {value(ROOT_LIST)}"), Answer(6, "cannot read nothing"))
+        self.assertEqual(party.ask(f"deliver {_lines.file_word(regular)} {value(ROOT_LIST)}"), Answer(0, "stored 1 kept 0 contradicted 0"))
+
     def test_closed(self):
         party = self.party()
         number = process_of(party)
@@ -391,6 +413,194 @@ class ListsAtPoints(InFolder):
         with self.assertRaises(PartyEnded) as caught:
             self.party(profile=Profile.WIDE)
         self.assertIn("store fault 72", str(caught.exception))
+
+
+# A process that has a party, forks, and is killed, while its child lives.
+PARENT = """
+import os, sys, time
+sys.path[:0] = [sys.argv[1]]
+import x509check
+party = x509check.Party(sys.argv[2], program=sys.argv[3])
+if os.fork() == 0:
+    time.sleep(60)
+    os._exit(0)
+print(party._link.ends.process_id, flush=True)
+time.sleep(60)
+"""
+
+
+@unittest.skipUnless(PROGRAM, "the program is missing")
+class Forks(InFolder):
+    """A process that forks, as servers do that start workers."""
+
+    def in_child(self, work):
+        """What work answers, or the name of what it raises, in a forked child; nothing if it does not end."""
+        here, there = os.pipe()
+        child = os.fork()
+        if child == 0:
+            try:
+                said = str(work())
+            except BaseException as cause:
+                said = type(cause).__name__
+            os.write(there, said.encode())
+            os._exit(0)
+        os.close(there)
+        try:
+            return os.read(here, 100).decode() if select.select([here], [], [], 20)[0] else None
+        finally:
+            os.close(here)
+            os.kill(child, signal.SIGKILL)
+            os.waitpid(child, 0)
+
+    def test_a_child_takes_nobodys_answers(self):
+        party = Party(self.file("store"), program=PROGRAM, limits=PartyLimits(5, 5))
+        self.addCleanup(party.close)
+        party.believe(GOOD_PRINTS.values())
+        for issuer, statement in ((ROOT, ROOT_LIST), (MIDDLE, MIDDLE_LIST), (MIDDLE, REVOKING_LIST)):
+            party.deliver(issuer, statement)
+        before = party._link.ends.process_id
+        for call in (lambda: party.check(ROOT, [MIDDLE], AT), lambda: party.validate_peer([LEAF, MIDDLE], [ROOT], AT),
+                     lambda: party.deliver(ROOT, ROOT_LIST), party.forget, lambda: party.ask("forget")):
+            self.assertEqual(self.in_child(call), "Forked")
+            self.assertEqual(party.check(ROOT, [MIDDLE, LEAF], AT).verdict, Verdict.REVOKED)
+        self.assertEqual(self.in_child(party.close), "None")
+        self.assertEqual(party.check(ROOT, [MIDDLE, LEAF], AT).verdict, Verdict.REVOKED)
+        self.assertEqual(party._link.ends.process_id, before, "a child ends nothing of its parent's")
+        self.assertTrue(issubclass(Forked, x509check.PartyError))
+
+    def test_a_child_keeps_no_session_alive(self):
+        words = [sys.executable, "-B", "-c", PARENT, os.path.join(authority.HERE, ".."), self.file("store"), PROGRAM]
+        with subprocess.Popen(words, stdout=subprocess.PIPE, text=True) as parent:
+            session = int(parent.stdout.readline())
+            child, = (one for one in children(parent.pid) if one != session)
+            self.addCleanup(os.kill, child, signal.SIGKILL)
+            parent.kill()
+            until = time.monotonic() + 10
+            while not has_ended(session) and time.monotonic() < until:
+                time.sleep(0.05)
+            self.assertTrue(has_ended(session) and not has_ended(child))
+            parent.stdout.close()
+
+
+def has_ended(process_id):
+    """Whether a process is gone, or only waits for whoever started it to ask how it ended."""
+    try:
+        with open(f"/proc/{process_id}/stat", encoding="ascii", errors="replace") as file:
+            return file.read().rpartition(")")[2].split()[0] == "Z"
+    except OSError:
+        return True
+
+
+@unittest.skipUnless(PROGRAM, "the program is missing")
+class Interrupts(InFolder):
+    """What a signal handler raises in a call, at whatever line it is."""
+
+    def interrupted(self, line, call):
+        """Whether a call came to a line of Python with this number, counted from its beginning, where it was interrupted."""
+        left = line
+
+        def trace(frame, event, _):
+            nonlocal left
+            if event == "line":
+                left -= 1
+                if left < 0:
+                    sys.settrace(None)
+                    raise KeyboardInterrupt
+            return trace
+        try:
+            sys.settrace(trace)
+            call()
+        except KeyboardInterrupt:
+            return True
+        finally:
+            sys.settrace(None)
+        return False
+
+    def test_at_every_line(self):
+        party = Party(self.file("store"), program=PROGRAM, limits=PartyLimits(2, 2))
+        self.addCleanup(party.close)
+        party.believe(GOOD_PRINTS.values())
+        for issuer, statement in ((ROOT, ROOT_LIST), (MIDDLE, MIDDLE_LIST), (MIDDLE, REVOKING_LIST)):
+            party.deliver(issuer, statement)
+        certificate, chain = Certificate.from_der(MIDDLE), [Certificate.from_der(one) for one in (MIDDLE, LEAF)]
+        for call, least in ((lambda: party.check(ROOT, [certificate], AT), 60), (lambda: party.ask("forget"), 20),
+                            (lambda: party.deliver(ROOT, ROOT_LIST), 150)):
+            lines = 0
+            while self.interrupted(lines, call):
+                lines += 1
+                if least == 20:
+                    party.believe(GOOD_PRINTS.values())
+                self.assertEqual(party.check(ROOT, chain, AT), Result(Verdict.REVOKED, 2, RevocationReason.KEY_COMPROMISE), lines)
+            self.assertGreater(lines, least)
+            party.believe(GOOD_PRINTS.values())
+
+    def test_by_a_handler(self):
+        party = Party(self.file("store"), program=PROGRAM, verdicts=authority.GOOD, limits=PartyLimits(5, 5))
+        self.addCleanup(party.close)
+        self.addCleanup(signal.signal, signal.SIGALRM, signal.SIG_DFL)
+        party.deliver(ROOT, ROOT_LIST)
+        rng = random.Random(1)
+
+        def handler(*_):
+            raise KeyboardInterrupt
+        signal.signal(signal.SIGALRM, handler)
+        for _ in range(300):
+            with contextlib.suppress(KeyboardInterrupt):
+                signal.setitimer(signal.ITIMER_REAL, rng.uniform(0.00001, 0.0008))
+                party.check(ROOT, [MIDDLE], AT)
+                signal.setitimer(signal.ITIMER_REAL, 0)
+            signal.setitimer(signal.ITIMER_REAL, 0)
+            self.assertEqual(party.check(ROOT, [MIDDLE, LEAF], AT), Result(Verdict.UNKNOWN, 2))
+
+
+def value(octets):
+    return f"hex:{octets.hex()}"
+
+
+# Each request of a session (docs/REFERENCE.md), and its answer by the examples' authority at AT, with the lists of both issuers.
+PATH, ASKED = " ".join(map(value, (ROOT, MIDDLE, LEAF))), "20261201000000Z"
+FOUND = (*(f"{number} {value(one)} 1" for number, one in enumerate((ROOT, MIDDLE, LEAF))), "valid")
+DOCUMENTED = (
+    ("believe " + "00" * 32, Answer(0, "believed")),
+    (f"deliver {value(ROOT)} {value(ROOT_LIST)}", Answer(0, "stored 0 kept 1 contradicted 0")),
+    (f"check {ASKED} {PATH}", Answer(0, "valid")),
+    (f"check {ASKED} purpose=1.3.6.1.5.5.7.3.2 {PATH}", Answer(1, "invalid 2 14 Purpose")),
+    (f"check {ASKED} policy=2.5.29.32.0 {PATH}", Answer(0, "1", ("valid",))),
+    (f"check {ASKED} purpose=1.3.6.1.5.5.7.3.1 policy=1.2.3 policy=2.5.29.32.0 require-policy inhibit-mapping inhibit-any-policy {PATH}",
+     Answer(1, "1", ("invalid 1 17 NoValidPolicy",))),
+    (f"find {ASKED} {PATH}", Answer(0, "4", FOUND)),
+    (f"find {ASKED} purpose=1.3.6.1.5.5.7.3.1 name=www.example {PATH}", Answer(0, "4", FOUND)),
+    (f"find {ASKED} name=mx.example {PATH}", Answer(1, "4", (*FOUND[:3], "other name"))),
+    (f"find {ASKED} {value(ROOT)} {value(LEAF)}", Answer(1, "1", ("not found",))),
+    (f"prints cert {value(ROOT)} {value(MIDDLE)}", Answer(0, "1", (f"{next(iter(GOOD_PRINTS.values())).hex()} certificate issuer",))),
+    (f"prints search {PATH}", None), (f"prints parts search {value(ROOT)} {value(MIDDLE)}", None),
+    (f"prints parts crl {value(ROOT)} {value(ROOT_LIST)}", None), (f"prints ocsp {value(MIDDLE)} {value(RESPONSE)}", None),
+    ("list", Answer(5, "bad line")), (f"list {ASKED}", Answer(5, "bad line")),
+    ("forget", Answer(0, "forgotten")), ("lists", Answer(5, "bad line")), (f"check soon {PATH}", Answer(5, "bad time")),
+)
+# With policies of its own: the example for them.
+POLICY_FOLDER = os.path.join(authority.TOP, "examples", "policies")
+
+
+def ask_all_that_is_documented(test, party):
+    party.believe(GOOD_PRINTS.values())
+    for issuer, statement in ((ROOT, ROOT_LIST), (MIDDLE, MIDDLE_LIST)):
+        party.deliver(issuer, statement)
+    for line, wanted in DOCUMENTED:
+        answer = party.ask(line)
+        with test.subTest(line[:60]):
+            if wanted is None:
+                test.assertEqual((answer.status, int(answer.text)), (0, len(answer.lines)))
+                test.assertGreater(len(answer.lines), 0)
+            else:
+                test.assertEqual(answer, wanted)
+    # Policies of the authorities and of the user.
+    root, partner, leaf = (x509check.load(os.path.join(POLICY_FOLDER, f"{name}.pem"))[0].octets for name in ("root", "partner", "leaf"))
+    party.judge("cert", root, partner)
+    party.judge("cert", partner, leaf)
+    answer = party.ask(f"check {ASKED} policy=2.5.29.32.0 {' '.join(map(value, (root, partner, leaf)))}")
+    test.assertEqual((answer.status, answer.lines[0]), (3, "unknown 1"))
+    test.assertRegex("\n".join(answer.lines[1:]), r"(?s)policy [0-9.]+.*user-policy [0-9.]+")
 
 
 class OverAStandIn(InFolder):
@@ -583,19 +793,12 @@ class OverAStandIn(InFolder):
             for one in others:
                 self.assertTrue(one.result())
 
-    def test_an_interrupt_leaves_the_answers_in_their_places(self):
-        self.plan(["check", {"sleep": 0.3, "write": "3 unknown 1\n"}])
-        with mock.patch("concurrent.futures.Future.result", side_effect=KeyboardInterrupt), self.assertRaises(KeyboardInterrupt):
-            self.check()
-        self.assertTrue(self.check())
-        self.assertEqual(self.log().count("started"), 1)
-
     def test_requests_that_are_answered_together(self):
         self.plan(["check", {"exit": 0}])
         self.assertEqual(self.party.ask_together(["forget", "check x", "believe " + "0" * 64]),
                          [Answer(0, "forgotten"), Answer(0, "valid"), Answer(0, "believed")])
-        told = ["forget", "believe " + "0" * 64]
-        self.assertEqual(self.log()[-5:], [*told, "forget", "check x", told[1]], "the next process is told, and then asked again")
+        asked = ["forget", "check x", "believe " + "0" * 64]
+        self.assertEqual(self.log()[-5:], ["started", "forget", *asked], "the next process is told nothing that was forgotten, and is asked again")
         with self.assertRaises(ValueError):
             self.party.ask_together(["forget", "quit"])
 
@@ -618,7 +821,7 @@ class Lines(unittest.TestCase):
             spoilt = self.spoilt(rng, line)
             status, _, text = spoilt.partition(" ")
             _lines.refusal_in(text)
-            if not _lines.is_answer(command, status, text):
+            if not _lines.is_answer(_lines.Form(command), status, text):
                 continue
             taken += 1
             self.assertIn(status, "0123456")
@@ -632,6 +835,28 @@ class Lines(unittest.TestCase):
                 self.assertEqual(said.verdict is Verdict.VALID, text == "valid")
                 self.assertEqual(said.verdict.value, text.split(" ")[0])
         self.assertGreater(taken, 2_000)
+
+    def test_policies_behind_a_verdict(self):
+        form, policies = _lines.Form.CHECK_POLICIES, ["policy 1.2.3", "policy #ff80", "user-policy 1.2.3"]
+        for status, lines, is_one in (
+            ("0", ["valid", *policies], True), ("0", ["valid"], True), ("3", ["unknown 1", *policies], True), ("2", ["revoked 1 1"], True),
+            ("1", ["invalid 1 17 NoValidPolicy"], True), ("1", ["invalid 1 17 NoValidPolicy", *policies], False), ("0", [], False),
+            ("0", ["unknown 1"], False), ("3", ["valid"], False), ("0", policies, False), ("0", ["valid", *policies[::-1]], False),
+            ("0", ["valid", "valid"], False), ("0", ["valid", "policy"], False),
+        ):
+            self.assertEqual(_lines.are_lines(form, status, lines), is_one, (status, lines))
+
+    def test_words_that_name_files(self):
+        for line, files in (
+            ("deliver a hex:30", ["a"]), ("check T a b", ["a", "b"]), ("check T purpose=1.2 policy=1.2 require-policy a", ["a"]),
+            ("check T require-policy a", ["require-policy", "a"]), ("check T policy=1 purpose=1 a", ["purpose=1", "a"]),
+            ("check T policy=1 inhibit-mapping require-policy a", ["require-policy", "a"]), ("check T purpose=1 purpose=2", ["purpose=2"]),
+            ("find T purpose=1 name=x a hex:", ["a"]), ("find T name=x purpose=1 a", ["purpose=1", "a"]), ("find T name=x name=y", ["name=y"]),
+            ("prints cert a b", ["a", "b"]), ("prints parts cert a b", ["a", "b"]), ("prints search a b c", ["a", "b", "c"]),
+            ("prints parts parts a", ["a"]), ("believe a", []), ("forget", []), ("check", []), ("check T", []), ("find", []), ("prints", []),
+        ):
+            self.assertEqual(_lines.request_in(line).files, files, line)
+        self.assertEqual([_lines.name_in(word) for word in ("a\\20b", "\\5c", "a b", "\\2", "\u00e4", "")], [b"a b", b"\\", None, None, None, None])
 
     @staticmethod
     def spoilt(rng, line):

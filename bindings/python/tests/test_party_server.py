@@ -20,7 +20,7 @@ from x509check import party as server
 
 from . import authority
 from .authority import GOOD_PRINTS, LEAF, MIDDLE, MIDDLE_LIST, ROOT, ROOT_LIST
-from .test_party import AT, PROGRAM, STAND_IN, InFolder, children
+from .test_party import ASKED, AT, PATH, PROGRAM, STAND_IN, InFolder, ask_all_that_is_documented, children
 
 MODULE = os.path.join(authority.HERE, "..")
 # What a process does that shares the party: it asks N times, and each answer has to be the one.
@@ -55,9 +55,9 @@ class Served(InFolder):
             one.wait()
             one.stderr.close()
 
-    def serve(self, *words, program=PROGRAM, front=(), environment=None):
+    def serve(self, *words, program=PROGRAM, front=(), environment=None, listening=None):
         """Starts a server, and waits until it listens or has ended."""
-        listening = [] if front else ["--listen", self.socket]
+        listening = ["--listen", self.socket] if listening or not front else []
         words = [*front, sys.executable, "-B", "-m", "x509check.party", "--store", self.file("store"), *listening, *words]
         environment = {**os.environ, "PYTHONPATH": MODULE, "X509CHECK": program, **(environment or {})}
         self.servers.append(subprocess.Popen(words, env=environment, stderr=subprocess.PIPE, text=True))
@@ -99,7 +99,7 @@ class OverTheProgram(Served):
             self.assertEqual((one.communicate(timeout=120)[0], one.returncode), ("done\n", 0))
 
     def test_lines_are_answered_as_by_a_session(self):
-        self.serve("--verdicts", authority.GOOD)
+        self.serve("--verdicts", authority.GOOD, "--octets", str(1 << 20))
         asked = [b"check 20261201000000Z " + b" ".join(b"hex:" + one.hex().encode() for one in (ROOT, MIDDLE, LEAF)), b"", b"# nothing",
                  b"nothing",
                  b"believe \xff", b"believe 00", b"deliver nothing nothing",
@@ -162,11 +162,81 @@ class OverTheProgram(Served):
                 self.assertTrue(party.check(ROOT, [MIDDLE, LEAF], AT))
 
     def test_values_that_are_too_long_for_a_line(self):
-        self.serve()
-        with Party.connect(self.socket, folder=self.folder) as party:
+        served = self.serve(environment={"TMPDIR": self.folder})
+        before = os.listdir(self.folder)
+        with Party.connect(self.socket, folder="/nowhere") as party:
             party.believe(GOOD_PRINTS.values())
-            found = party.find(LEAF, [ROOT], [*[authority.DELEGATE] * 1000, MIDDLE], AT)
-            self.assertEqual(found, Result(Verdict.UNKNOWN, 1))
+            found = party.find(LEAF, [ROOT], [*[authority.DELEGATE] * 2500, MIDDLE], AT)
+            self.assertEqual((found, len(found.path)), (Result(Verdict.UNKNOWN, 1), 3))
+            with self.assertRaises(Refused) as caught:
+                party.deliver(ROOT, ROOT_LIST + bytes(1 << 20))
+            self.assertEqual((caught.exception.what, caught.exception.name), ("statement", "Trailing"))
+        self.assertEqual(os.listdir(self.folder), before, "files are removed")
+        served.kill()
+        served.wait()
+        self.serve("--octets", str(1 << 20))
+        with Party.connect(self.socket) as party, self.assertRaises(Refused) as caught:
+            party.find(LEAF, [ROOT], [*[authority.DELEGATE] * 2500, MIDDLE], AT)
+        self.assertEqual(str(caught.exception), "5 line too long")
+
+    def test_no_request_names_a_file(self):
+        served = self.serve("--verdicts", authority.GOOD)
+        self.deliver()
+        hostile, innocent = self.raw(), self.raw()
+        pipe = self.file("pipe")
+        os.mkfifo(pipe)
+        checks = [f"check {ASKED} {PATH}\n".encode(), f"check 20281201000000Z {PATH}\n".encode()]
+        for name in ("/dev/stdin", "/proc/self/fd/0", pipe, self.file("socket")):
+            for line in (f"deliver {name} hex:30", f"deliver hex:30 {name}", f"check {ASKED} {name} hex:30", f"find {ASKED} {name} hex:30",
+                         f"check {ASKED} policy=1.2.3 {name} hex:30", f"prints cert {name} hex:30", f"prints search {name} hex:30"):
+                hostile.sendall(f"{line}\n".encode())
+                for check, wanted in zip(checks, (b"0 valid\n", b"1 invalid 2 4 Expired\n")):
+                    innocent.sendall(check)
+                    self.assertEqual(innocent.recv(100), wanted, line)
+                self.assertEqual(hostile.recv(1000), f"6 cannot read {name}\n".encode(), line)
+        with Party.connect(self.socket) as party, self.assertRaises(ValueError):
+            party.ask("deliver root.der hex:30")
+        self.assertEqual(served.poll(), None)
+
+    def test_each_request_that_is_documented(self):
+        self.serve()
+        with Party.connect(self.socket) as party:
+            ask_all_that_is_documented(self, party)
+            self.assertEqual(len(children(self.servers[0].pid)), 1)
+
+    def test_a_forked_child_connects_anew(self):
+        self.serve()
+        self.deliver()
+        with Party.connect(self.socket, limits=PartyLimits(5, 5)) as party:
+            party.believe(GOOD_PRINTS.values())
+            here, there = os.pipe()
+            child = os.fork()
+            if child == 0:
+                said = set()
+                for _ in range(200):
+                    said.add(str(party.check(ROOT, [MIDDLE, LEAF], "2028-12-01T00:00:00Z").reason))
+                os.write(there, " ".join(said).encode())
+                os._exit(0)
+            for _ in range(200):
+                self.assertTrue(party.check(ROOT, [MIDDLE, LEAF], AT))
+            os.waitpid(child, 0)
+            self.assertEqual(os.read(here, 100), str(x509check.Reason.EXPIRED).encode())
+            self.assertTrue(party.check(ROOT, [MIDDLE, LEAF], AT))
+            os.close(here)
+            os.close(there)
+
+    def test_what_one_connection_may_believe(self):
+        self.serve("--connections", "200")    # (of which each may believe 81)
+        connection = self.raw()
+        connection.sendall(b"".join(b"believe %064x\n" % number for number in range(90)) + b"believe %064x\nforget\nbelieve %064x\nquit\n" % (0, 99))
+        self.assertEqual(self.all_of(connection).decode().splitlines(), [
+            *["0 believed"] * 81, *["6 too many believed"] * 9, "0 believed", "0 forgotten", "0 believed", "0 ended"])
+        with Party.connect(self.socket) as party:
+            party.believe([number.to_bytes(32, "big") for number in range(80)])
+            with self.assertRaises(Refused):
+                party.believe([number.to_bytes(32, "big") for number in range(80, 90)])
+            # A call that judges begins anew.
+            self.assertEqual(party.validate_peer([LEAF, MIDDLE], [ROOT], AT).verdict, Verdict.UNKNOWN)
 
     def test_systemd_hands_over_the_socket(self):
         # (descriptor 3, and the number of the process itself in LISTEN_PID: sd_listen_fds(3))
@@ -196,7 +266,7 @@ class OverTheProgram(Served):
         served = self.serve()
         for words, status, why in (
             (["--store", self.file("second")], 6, "in use"), (["--mode", "888"], 5, ""), (["--octets", "0"], 5, ""),
-            (["--octets", "1048577"], 5, ""), (["--connections", "x"], 5, ""), (["--store", self.file("nowhere/x")], 6, "store fault 71"),
+            (["--octets", str(1 << 30)], 5, ""), (["--connections", "x"], 5, ""), (["--store", self.file("nowhere/x")], 6, "store fault 71"),
             (["--profile", "narrow"], 5, ""),
         ):
             with self.subTest(words):
@@ -264,17 +334,55 @@ class OverAStandIn(Served):
 
     def test_no_more_connections_than_are_allowed(self):
         self.serve("--connections", "2", program=self.program)
+        self.plan('[["check", {"sleep": 3, "write": "0 valid\\n"}]]')
         first, second, third = self.raw(), self.raw(), self.raw()
-        for one in (first, second):
-            one.sendall(b"forget\n")
-            self.assertEqual(one.recv(100), b"0 forgotten\n")
+        first.sendall(b"forget\n")
+        self.assertEqual(first.recv(100), b"0 forgotten\n")
+        first.sendall(b"check hex:30\n")
+        second.sendall(b"forg")
         third.sendall(b"forget\n")
-        third.settimeout(0.5)
+        third.settimeout(1.5)
         with self.assertRaises(OSError):
-            third.recv(100)
-        first.close()
+            third.recv(100)    # (the first is at work, and the second has begun a line)
+        second.close()
         third.settimeout(20)
         self.assertEqual(third.recv(100), b"0 forgotten\n")
+        self.assertEqual(first.recv(100), b"0 valid\n")
+
+    def test_who_rests_makes_way(self):
+        self.serve("--connections", "3", program=self.program)
+        resting = [self.raw() for _ in range(3)]
+        for one in resting:
+            one.sendall(b"forget\n")
+            self.assertEqual(one.recv(100), b"0 forgotten\n")
+        resting[0].sendall(b"forget\n")
+        self.assertEqual(resting[0].recv(100), b"0 forgotten\n")
+        fourth = self.raw()
+        fourth.sendall(b"forget\n")
+        self.assertEqual(fourth.recv(100), b"0 forgotten\n")
+        self.assertEqual(resting[1].recv(100), b"", "the one that rested longest was shut")
+        for one in (resting[0], resting[2]):
+            one.sendall(b"forget\n")
+            self.assertEqual(one.recv(100), b"0 forgotten\n")
+
+    def test_a_line_has_to_end_however_it_comes(self):
+        self.serve("--seconds", "1", program=self.program)
+        connection, begun = self.raw(), time.monotonic()
+        with self.assertRaises(OSError):
+            while time.monotonic() < begun + 10:
+                connection.sendall(b"a")
+                time.sleep(0.2)
+        self.assertLess(time.monotonic() - begun, 5)
+
+    def test_no_descriptor_is_left(self):
+        served = self.serve("--connections", "100", program=self.program, front=["prlimit", "--nofile=24"], listening=True)
+        many = [self.raw() for _ in range(30)]
+        time.sleep(0.5)
+        self.assertIsNone(served.poll())
+        for one in many:
+            one.close()
+        with Party.connect(self.socket) as party:
+            self.assertEqual(party.ask("forget"), Answer(0, "forgotten"))
 
     def test_who_does_not_take_answers(self):
         self.serve("--seconds", "1", program=self.program)

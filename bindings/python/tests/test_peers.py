@@ -162,9 +162,11 @@ class OverTheAuthority(unittest.TestCase):
             file.flush()
             with self.assertRaises(NotLoaded):
                 x509check.system_anchors()
-        with mock.patch.dict(os.environ, {"SSL_CERT_FILE": "/nowhere"}), self.assertRaises(OSError):
-            x509check.system_anchors()
-        with mock.patch.dict(os.environ, {"SSL_CERT_FILE": ""}), mock.patch("os.path.exists", return_value=False):
+        for named in ("/nowhere", ""):
+            with mock.patch.dict(os.environ, {"SSL_CERT_FILE": named}), self.assertRaises(FileNotFoundError):
+                x509check.system_anchors()
+        with mock.patch.dict(os.environ), mock.patch("os.path.exists", return_value=False):
+            os.environ.pop("SSL_CERT_FILE", None)
             with self.assertRaises(x509check.NoAnchors):
                 x509check.system_anchors()
 

@@ -3,6 +3,7 @@
 
 import hashlib
 import os
+import subprocess
 import unittest
 
 import x509check
@@ -11,6 +12,7 @@ from x509check import (
 )
 
 from .authority import tried
+from .test_party import PROGRAM, InFolder
 
 # 2025-06-15T00:00:00Z
 MIDDLE = 1749945600
@@ -110,6 +112,27 @@ class Profiles(unittest.TestCase):
             with self.subTest(profile), self.assertRaisesRegex(TypeError, "a Profile is wanted"):
                 answer(profile=profile)
         self.assertIs(x509check.Profile, Profile)
+
+
+@unittest.skip("the program's hints do not name profiles yet")
+class Hints(InFolder):
+    def hint(self, *words):
+        done = subprocess.run([PROGRAM, "--hints", *words], cwd=self.folder, stdout=subprocess.DEVNULL, stderr=subprocess.PIPE, text=True, check=False)
+        lines = done.stderr.splitlines()
+        self.assertEqual([line.split(": ")[0] for line in lines], ["x509check", "hint"])
+        return done.returncode, *lines
+
+    def test_they_name_the_profile(self):
+        for name, octets in (("root.der", ROOT), ("list.crl", LIST), ("good", b""), ("broken", b"SQLite format 3\0" + b"\xff" * 2000)):
+            with open(self.file(name), "wb") as file:
+                file.write(octets)
+        status, line, hint = self.hint("deliver", "--store", "store", "--verdicts", "good", "--issuer", "root.der", "list.crl")
+        self.assertEqual((status, "refused 48 Scope" in line, "--profile wide" in hint), (4, True, True))
+        subprocess.run([PROGRAM, "--profile", "wide", "session", "--store", "wide"], cwd=self.folder, input=b"quit\n", stdout=subprocess.DEVNULL, check=True)
+        status, line, hint = self.hint("list", "--store", "wide")
+        self.assertEqual((status, line[-2:], "the profile 'stated'" in hint), (6, "72", True))
+        status, line, hint = self.hint("list", "--store", "broken")
+        self.assertEqual((status, line[:24], "the profile 'stated'" in hint), (6, "x509check: store fault 7", True))
 
 
 if __name__ == "__main__":

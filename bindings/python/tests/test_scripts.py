@@ -5,6 +5,7 @@ import shutil
 import subprocess
 import sys
 import tempfile
+import threading
 import unittest
 
 from x509check import Certificate
@@ -12,6 +13,7 @@ from x509check._program import PLACES
 
 from . import authority
 from .authority import LEAF, MIDDLE, ROOT, ROOT_LIST
+from .fetch_authority import FOR_SERVER, Authority
 from .test_loading import KEY, pem
 
 STAND_IN = f"#!/bin/sh\nexec '{sys.executable}' -B '{os.path.join(authority.HERE, 'stand_in.py')}' \"$@\"\n"
@@ -169,6 +171,95 @@ class Validate(unittest.TestCase):
                 self.stopped(5, "", "--anchor", "root.pem", *words, "leaf.pem")
         self.stopped(5, "", "leaf.pem")
         self.assertEqual(self.run_script("--help")[0], 0)
+
+    def test_an_option_that_is_empty_is_given(self):
+        words = ["--anchor", "root.pem", *AT, "--chain", "middle.pem", "--crl", "root.crl", "--crl", "middle.crl", "leaf.pem"]
+        self.stopped(5, "bad name", "--name", "", *words)
+        for option in ("--purpose", "--at", "--profile", "--index"):
+            self.stopped(5, "", option, "", *words)
+        for option in ("--html", "--keep", "--crl", "--ocsp", "--chain", "--anchor"):
+            self.stopped(6, "", option, "", *words)
+
+    def test_runs_at_the_same_time_in_one_folder(self):
+        """Both have written their files before one of them asks the program for a path."""
+        there = os.path.join(self.folder, "there")
+        os.mkdir(there)
+        waiting = self.executable("waiting", f"""#!/bin/sh
+case " $* " in *" find "*)
+    touch {there}/$$
+    while [ "$(ls {there} | wc -l)" -lt 2 ]; do sleep 0.02; done;;
+esac
+exec '{self.program}' "$@"
+""")
+        lists, found = ["--crl", "root.crl", "--crl", "middle2.crl"], {}
+
+        def ask(name, *words):
+            found[name] = self.run_script("--anchor", "root.pem", *AT, *lists, *words, X509CHECK=waiting)[:2]
+        asking = [threading.Thread(target=ask, args=words) for words in (("leaf", "--chain", "middle.pem", "leaf.pem"), ("middle", "middle.pem"))]
+        for one in asking:
+            one.start()
+        for one in asking:
+            one.join()
+        told = {name: (status, out.splitlines()[:2]) for name, (status, out) in found.items()}
+        self.assertEqual(told, {"leaf": (2, ["revoked 2 1", f"target {IDENTITIES['leaf']}"]), "middle": (0, ["valid", f"target {IDENTITIES['middle']}"])})
+        self.assertEqual({name for name in os.listdir(os.path.join(self.folder, "validate.d")) if name.startswith("run-")}, set())
+
+    def test_a_file_of_verdicts_that_was_cut_off(self):
+        words = [*AT, "--chain", "middle.pem", "--crl", "root.crl", "--crl", "middle.crl", "leaf.pem"]
+        self.answered(0, "valid", *words)
+        with open(os.path.join(self.folder, "validate.d", "verdicts"), "r+b") as file:
+            file.truncate(file.seek(0, os.SEEK_END) - 30)
+        self.answered(0, "valid", *words)
+
+    def made(self):
+        """An authority with a certificate for a server, the words about it, and its certificate's number."""
+        made = Authority(self.folder)
+        made.root()
+        made.certificate("Server", "Root", FOR_SERVER)
+        return made, ["--anchor", "Root.pem", "Server.pem"], made.serial
+
+    def put_list(self, made, name, **words):
+        made.revocation_list("Root", **words)
+        os.rename(made.path("Root.crl"), made.path(name))
+        return ["--crl", made.path(name)]
+
+    def test_a_list_that_nobody_can_judge(self):
+        made, words, serial = self.made()
+        older = self.put_list(made, "older.crl", number=1)
+        newer = self.put_list(made, "newer.crl", number=2, revoked=[serial], digest="sha1")
+        self.assertEqual(self.run_script(*older, "--keep", "a", *words)[:2][0], 0)
+        self.stopped(4, "valid by the other statements", *older, *newer, "--keep", "a", *words)
+        status, out, _ = self.run_script(*older, *newer, "--keep", "a", "--ignore-unreadable", *words)
+        self.assertEqual((status, out.splitlines()[0]), (0, "valid"))
+        # One of another authority of that name, and one that was forged, stop nobody.
+        other = Authority(os.path.join(self.folder, "other"))
+        os.mkdir(other.folder)
+        other.root()
+        foreign = self.put_list(other, "foreign.crl", number=3, revoked=[serial])
+        status, out, err = self.run_script(*older, *foreign, "--keep", "a", *words)
+        self.assertEqual((status, out.splitlines()[0]), (0, "valid"), err)
+        self.assertIn("not signed under the issuer's key", err)
+
+    def test_a_key_that_is_not_for_the_purpose(self):
+        made, _, _ = self.made()
+        made.certificate("Signer", "Root", FOR_SERVER + "keyUsage=critical,keyCertSign\n")
+        words = [*self.put_list(made, "list.crl"), "--anchor", "Root.pem", "Signer.pem"]
+        self.assertEqual(self.run_script(*words)[1].splitlines()[0], "valid")
+        status, out, err = self.run_script("--purpose", "serverAuth", *words)
+        self.assertEqual((status, out.splitlines()[0]), (1, "not found"))
+        self.assertIn("(purpose)", err)
+
+    def test_statements_that_contradict_each_other(self):
+        made, words, serial = self.made()
+        first = self.put_list(made, "first.crl", number=1)
+        second = self.put_list(made, "second.crl", number=1, revoked=[serial])
+        third = self.put_list(made, "third.crl", number=1, revoked=[serial + 1])
+        self.assertIn("ALARM", self.stopped(8, "second.crl revokes", *first, *second, "--keep", "a", *words))
+        status, out, _ = self.run_script(*second, *first, "--keep", "b", *words)
+        self.assertEqual((status, out.splitlines()[0]), (2, "revoked 1 1"))
+        status, out, err = self.run_script(*first, *third, "--keep", "c", *words)
+        self.assertEqual((status, out.splitlines()[0]), (0, "valid"), "it says nothing of this certificate")
+        self.assertIn("contradicted 1", err)
 
     def test_what_is_not_there(self):
         words = ["--anchor", "root.pem", *AT, "--chain", "middle.pem", "leaf.pem"]

@@ -22,10 +22,10 @@ from typing import Dict, List, Optional, Sequence
 from unittest import mock
 
 import fuzz_signatures
-from x509check import SignatureQuestion, _crypto_package, _der, _libcrypto, signatures
-from x509check.signatures import BadLine, JudgeMissing, Judgement, Opinion, Policy, judge, judge_all, opinions, read_printed
+from x509check import SignatureQuestion, _crypto_package, _curves, _der, _libcrypto, signatures
+from x509check.signatures import BadLine, JudgeFailed, JudgeMissing, Judgement, Opinion, Policy, judge, judge_all, opinions, read_printed
 
-from .signed_by_openssl import CERTIFICATES, Signed, question_of, self_signed
+from .signed_by_openssl import CERTIFICATES, CURVES, Signed, question_of, self_signed
 
 GOOD, WRONG, NOT_SERVED, REFUSED = Judgement.GOOD, Judgement.WRONG, Judgement.NOT_SERVED, Judgement.REFUSED
 TOP = os.path.join(os.path.dirname(os.path.realpath(__file__)), "..", "..", "..")
@@ -33,7 +33,7 @@ EXAMPLES = os.path.join(TOP, "examples")
 AUTHORITY = os.path.join(EXAMPLES, "authority")
 VERDICTS = os.path.join(TOP, "bin", "verdicts")
 ENGINES = [engine.NAME for engine in (_crypto_package, _libcrypto) if engine.loaded() is not None]
-LAX = Policy(digests=signatures.SERVED_DIGESTS, minimum_rsa_bits=512)
+LAX = Policy(digests=signatures.SERVED_DIGESTS, minimum_rsa_bits=512, maximum_rsa_bits=16384)
 SEQUENCE, OID, NULL = _der.SEQUENCE, _der.OBJECT_IDENTIFIER, b"\x05\x00"
 
 
@@ -316,6 +316,15 @@ class Keys(Judged):
         for algorithm in (identifier(EC), identifier(EC, NULL), identifier(EC, no_curve), identifier(EC, b"\x06\x00")):
             self.under("ecdsa sha256", info(algorithm, point), NOT_SERVED)
 
+    def test_the_curves_are_those_of_openssl(self) -> None:
+        for name, curve in CURVES.items():
+            words = ["openssl", "ecparam", "-name", curve, "-param_enc", "explicit", "-outform", "DER"]
+            _, field, equation, *_ = _der.value(subprocess.run(words, stdout=subprocess.PIPE, check=True).stdout).members()
+            prime = field.members()[1].unsigned()
+            a, b = (int.from_bytes(it.contents, "big") for it in equation.members()[:2])
+            ours = _curves._EQUATIONS[name if name.startswith(("P", "s")) else curve]
+            self.assertEqual((ours[0], ours[1] % prime, ours[2]), (prime, a, b), name)
+
     def test_edwards(self) -> None:
         for name, oid in (("ed25519", "1.3.101.112"), ("ed448", "1.3.101.113")):
             octets = key_octets(about(name).key)
@@ -397,7 +406,7 @@ class Policies(unittest.TestCase):
             ("rsa sha256", Policy(minimum_rsa_bits=2049)), ("rsa sha256", Policy(digests={"sha384"})), ("rsa sha256", Policy(digests=set())),
             ("pss mask sha512", Policy(digests={"sha256"})), ("pss mask sha512", Policy(digests={"sha512"})),
             ("ecdsa sha256", Policy(curves=signatures.SERVED_CURVES - {"P-256"})), ("ed25519", Policy(curves={"P-256"})),
-            ("ed448", Policy(curves={"Ed25519"})), ("ecdsa sha256", Policy(digests={"sha512"})),
+            ("ed448", Policy(curves={"Ed25519"})), ("ecdsa sha256", Policy(digests={"sha512"})), ("rsa sha256", Policy(maximum_rsa_bits=2047)),
         ):
             with self.subTest(name, policy=policy):
                 self.assertIs(judge(about(name), policy), REFUSED)
@@ -486,20 +495,46 @@ class Callers(unittest.TestCase):
                 self.assertEqual(library.ERR_get_error(), 0)
 
     def test_of_libcrypto_only_1_is_good(self) -> None:
-        for call, answers, wanted in (("EVP_DigestVerify", (0, -1, -2, 2), WRONG), ("EVP_DigestVerifyInit_ex", (0, -1, 2), NOT_SERVED),
-                                      ("EVP_PKEY_CTX_ctrl_str", (0, -1, -2, 2), NOT_SERVED), ("d2i_PUBKEY", (None,), NOT_SERVED)):
+        """And only 0 is wrong: whatever else fails says nothing of the signature."""
+        for call, answers, wanted in (("EVP_DigestVerify", (0,), WRONG), ("EVP_DigestVerify", (-1, -2, 2), None),
+                                      ("EVP_DigestVerifyInit_ex", (0, -1, 2), None), ("EVP_PKEY_CTX_ctrl_str", (0, -1, -2, 2), None),
+                                      ("d2i_PUBKEY", (None,), None)):
             for answer in answers:
                 library = mock.Mock(wraps=_libcrypto.loaded())
                 setattr(library, call, mock.Mock(return_value=answer))
                 with self.subTest(call, answer=answer), mock.patch.object(_libcrypto, "loaded", return_value=library):
-                    self.assertIs(judge(about("pss salt digest"), engine="libcrypto"), wanted)
+                    if wanted is None:
+                        with self.assertRaises(JudgeFailed):
+                            judge(about("pss salt digest"), engine="libcrypto")
+                    else:
+                        self.assertIs(judge(about("pss salt digest"), engine="libcrypto"), wanted)
                     getattr(library, call).assert_called()
 
-    def test_memory_that_is_refused_is_no_judgement(self) -> None:
-        library = mock.Mock(wraps=_libcrypto.loaded())
-        library.EVP_DigestVerify = mock.Mock(return_value=0)
-        library.ERR_get_error = mock.Mock(side_effect=[0x06000000 | 0xC0100, 0, 0])
-        with mock.patch.object(_libcrypto, "loaded", return_value=library), self.assertRaises(MemoryError):
+    def test_what_fails_within_a_verification_is_no_judgement(self) -> None:
+        for errors, kind in (([0x06000000 | 0xC0100], MemoryError), ([4 << 23 | 104, 57 << 23 | 0xC0100], MemoryError),
+                             ([3 << 23 | 100], JudgeFailed), ([6 << 23 | 134], JudgeFailed), ([0x80000000 | 12], JudgeFailed)):
+            library = mock.Mock(wraps=_libcrypto.loaded())
+            library.EVP_DigestVerify = mock.Mock(return_value=0)
+            library.ERR_get_error = mock.Mock(side_effect=[*errors, 0, 0, 0])
+            with self.subTest(errors), mock.patch.object(_libcrypto, "loaded", return_value=library), self.assertRaises(kind):
+                judge(about("ed25519"), engine="libcrypto")
+
+    def test_what_the_package_does_not_take_is_no_judgement(self) -> None:
+        package = _crypto_package.loaded()
+        if package is None:
+            self.skipTest("the package cryptography is missing")
+        exceptions, hashes, _, ec, padding = package
+        for cause in (ValueError("no"), exceptions.UnsupportedAlgorithm("no")):
+            for key in (mock.Mock(side_effect=cause), mock.Mock(return_value=mock.Mock(verify=mock.Mock(side_effect=cause)))):
+                serialization = mock.Mock(load_der_public_key=key)
+                with mock.patch.object(_crypto_package, "loaded", return_value=(exceptions, hashes, serialization, ec, padding)), \
+                        self.assertRaises(JudgeFailed):
+                    judge(about("ecdsa sha256"), engine="cryptography")
+
+    def test_what_is_wrong_is_looked_at_twice(self) -> None:
+        with mock.patch.object(_libcrypto, "verify", side_effect=[False, True]):
+            self.assertIs(judge(about("ed25519"), engine="libcrypto"), GOOD)
+        with mock.patch.object(_libcrypto, "verify", side_effect=[False, MemoryError]), self.assertRaises(MemoryError):
             judge(about("ed25519"), engine="libcrypto")
 
     def test_the_library_of_x509check_is_not_needed(self) -> None:

@@ -13,15 +13,16 @@ The work is done by the library for C of x509check, whose code is proved. This m
 What cannot be read is an error: NotLoaded for a file, and a Fault for a certificate, a list or a response.
 """
 
+from ._alarms import Alarm, Contradiction, Unjudged
 from ._arguments import PURPOSES
 from ._certificates import Certificate, Extensions, check, fingerprint
 from ._faults import Fault, Text
 from ._files import NoPath, load, path_to
 from ._library import LibraryMissing
 from ._lines import Answer
-from ._link import Garbled, PartyEnded, PartyError, TimeIsUp
+from ._link import Forked, Garbled, PartyEnded, PartyError, TimeIsUp
 from ._names import Identity
-from ._party import Delivery, Party, PartyLimits, Refused
+from ._party import Contradicted, Delivery, Party, PartyLimits, Refused
 from ._peers import NoAnchors, peer_questions, system_anchors, validate_peer
 from ._pem import Kind, Loaded, NotLoaded
 from ._policies import ResultWithPolicies, validate_with_policies
@@ -32,14 +33,14 @@ from ._questions import SignatureQuestion, questions
 from ._reference import BadReference, ReferenceRule
 from ._report import report, report_on_two
 from ._verdicts import NotValid, Reason, Result, RevocationReason, Verdict, WhyNot, validate
-from .signatures import Judgement, JudgeMissing, Opinion, Policy, judge, judge_all, opinions
+from .signatures import JudgeFailed, Judgement, JudgeMissing, Opinion, Policy, judge, judge_all, opinions
 
 __version__ = "1.0.0"
 
 __all__ = [
-    "Answer", "BadReference", "Certificate", "Delivery", "Extensions", "Fault", "Garbled", "Identity", "JudgeMissing", "Judgement", "Kind", "LibraryMissing", "Limits",
+    "Alarm", "Answer", "BadReference", "Certificate", "Contradicted", "Contradiction", "Delivery", "Extensions", "Fault", "Forked", "Garbled", "Identity", "JudgeFailed", "JudgeMissing", "Judgement", "Kind", "LibraryMissing", "Limits",
     "Loaded", "NoAnchors", "NoPath", "NotLoaded", "NotValid", "Opinion", "Party", "PartyEnded", "PartyError", "PartyLimits",
     "Policy", "Profile", "ProgramMissing", "PURPOSES", "SignatureQuestion", "Reason", "ReferenceRule", "Refused",
-    "Result", "ResultWithPolicies", "RevocationReason", "Text", "TimeIsUp", "Verdict", "WhyNot", "check", "explain", "fingerprint", "judge", "judge_all", "load", "opinions", "path_to",
+    "Result", "ResultWithPolicies", "RevocationReason", "Text", "TimeIsUp", "Unjudged", "Verdict", "WhyNot", "check", "explain", "fingerprint", "judge", "judge_all", "load", "opinions", "path_to",
     "peer_questions", "questions", "report", "report_on_two", "system_anchors", "validate", "validate_peer", "validate_with_policies",
 ]

@@ -3,7 +3,7 @@
 import functools
 from typing import Any, List
 
-from ._crypto_schemes import Key, Kind, NotServed, Scheme
+from ._crypto_schemes import JudgeFailed, Key, Kind, Scheme
 
 NAME = "cryptography"
 
@@ -35,16 +35,16 @@ def _arguments(scheme: Scheme) -> List[Any]:
 
 
 def verify(scheme: Scheme, key: Key, message: bytes, signature: bytes) -> bool:
-    """Whether the signature is good. Raises NotServed."""
+    """Whether the signature is good. Raises JudgeFailed."""
     exceptions, _, serialization, _, _ = loaded()
     try:
         public = serialization.load_der_public_key(key.info)
     except (exceptions.UnsupportedAlgorithm, ValueError) as cause:
-        raise NotServed("the key: the package cryptography does not take it") from cause
+        raise JudgeFailed("the package cryptography does not take the key, which is served") from cause
     try:
         public.verify(signature, message, *_arguments(scheme))
     except exceptions.InvalidSignature:
         return False
     except (exceptions.UnsupportedAlgorithm, ValueError) as cause:
-        raise NotServed("the algorithm: the package cryptography does not take it") from cause
+        raise JudgeFailed("the package cryptography does not take the algorithm, which is served") from cause
     return True

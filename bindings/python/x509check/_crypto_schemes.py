@@ -7,11 +7,16 @@ import enum
 from typing import Dict, FrozenSet, List, NamedTuple, Optional, Tuple
 
 from . import _der
+from ._curves import SIZES, is_on_curve
 from ._der import Value
 
 
 class NotServed(ValueError):
     """Why nobody here can tell whether a signature is good."""
+
+
+class JudgeFailed(RuntimeError):
+    """The library for signatures failed at an algorithm and a key that are served: nothing is said of the signature."""
 
 
 class Kind(enum.Enum):
@@ -53,16 +58,15 @@ class Key(NamedTuple):
     """Of the modulus of an RSA key."""
     curve: str = ""
     only_pss: bool = False
+    point: bytes = b""
+    """Of a key on a curve of the kind EC, which need not be on it (`want_point`)."""
     least: Optional[Pss] = None
     """What a key for RSASSA-PSS alone asks of the parameters of its signatures, if it does (RFC 4055, 3.3)."""
 
 
 # Octets of the digest, and of what stands before it in a DigestInfo (RFC 8017, 9.2, note 1).
 DIGESTS: Dict[str, Tuple[int, int]] = {"sha1": (20, 15), "sha224": (28, 19), "sha256": (32, 19), "sha384": (48, 19), "sha512": (64, 19)}
-# The field elements of each curve, in octets.
-CURVES: Dict[str, int] = {
-    "P-224": 28, "P-256": 32, "P-384": 48, "P-521": 66, "secp256k1": 32, "brainpoolP256r1": 32, "brainpoolP384r1": 48, "brainpoolP512r1": 64,
-}
+CURVES = SIZES
 # OpenSSL takes no longer modulus, and beside a long one no longer exponent.
 RSA_BITS_LEAST, RSA_BITS_MOST, EXPONENT_BITS_MOST = 512, 16384, 64
 SIGNATURE_OCTETS = {Kind.ED25519: 64, Kind.ED448: 114}
@@ -204,7 +208,7 @@ def _ec_key(octets: bytes, parameters: Optional[Value], info: bytes) -> Key:
     curve = _CURVE_IDENTIFIERS[parameters.contents]
     if (octets[:1], len(octets)) not in ((b"\4", 1 + 2 * CURVES[curve]), (b"\2", 1 + CURVES[curve]), (b"\3", 1 + CURVES[curve])):
         raise ValueError(f"no point on {curve}")
-    return Key(Kind.EC, info, curve=curve)
+    return Key(Kind.EC, info, curve=curve, point=octets)
 
 
 def _edwards_key(kind: Kind, octets: bytes, info: bytes) -> Key:
@@ -241,6 +245,12 @@ def read_key(info: bytes) -> Key:
         return _key(info)
     except ValueError as cause:
         raise NotServed(f"the key: {cause}") from cause
+
+
+def want_point(key: Key) -> None:
+    """Raises NotServed if the point of a key is not on its curve: no library takes it, and whatever else a library does not take is a failure."""
+    if key.kind is Kind.EC and not is_on_curve(key.curve, key.point):
+        raise NotServed(f"the key: no point on {key.curve}")
 
 
 def _too_short(scheme: Scheme, bits: int) -> bool:

@@ -43,12 +43,16 @@ def verdict_text(result: Optional[Result]) -> str:
     """The verdict and its reason in words."""
     if result is None:
         return "not one answer"
+    if result.verdict is Verdict.VALID and result.alarms:
+        return "alarm"
     reason = "" if result.reason is None else f" ({result.reason.name.lower().replace('_', ' ')})"
     return f"{result.verdict.value}{reason}"
 
 
 def class_of(result: Optional[Result]) -> str:
-    return "none" if result is None else CLASSES[result.verdict]
+    if result is None:
+        return "none"
+    return "bad" if result.alarms else CLASSES[result.verdict]
 
 
 def role(number: int, count: int, is_path: bool) -> str:

@@ -4,17 +4,18 @@ import dataclasses
 import time
 from typing import Iterator, List, NamedTuple, Optional, Sequence, Set, Tuple
 
-from ._arguments import Value, der_of
+from ._arguments import Value, der_of, purpose_of
 from ._certificates import Certificate, origin_of
 from ._faults import Fault, Text
-from ._peers import certificate_in, peer_questions, validate_peer
+from ._peers import PathQuestion, certificate_in, found_by, gave_up
 from ._pem import Kind
 from ._profile import Profile
 from ._program import ProgramMissing
-from ._query import Limits, Query
-from ._reference import Reference
+from ._query import Limits, Query, Search
+from ._questions import ask_within
+from ._reference import Reference, speaks_for
 from ._shown import Piece, Shown, pieces_around, shown_as, shown_statement, windows_of
-from ._verdicts import Judge, Result, Verdict, WhyNot, check_flag, different, judged_by, validate
+from ._verdicts import Judge, Result, Verdict, WhyNot, check_flag, judged_by, validate
 from .signatures import Judgement
 
 # A report says of so many at most, and says how many more there are.
@@ -182,16 +183,28 @@ class _Answers:
     def __init__(self, asked: Asked, anchors: List[Certificate], sent: List[Certificate], statements: List[Titled], verify: Optional[Judge]):
         self.asked, self.anchors, self.sent, self.statements = asked, anchors, sent, statements
         self.texts = [octets for _, octets in statements]
-        judged = judged_by(different(peer_questions(sent, anchors, self.texts, profile=asked.profile)), verify)
-        self.judgements = {question.fingerprint: judgement for question, judgement in judged}
+        search = self._search(asked.moment)
+        questions = ask_within(search, (asked.limits or Limits()).signatures)
+        self.judged = judged_by(questions or [], verify)
+        self.gave_up = gave_up(search) if questions is None else None
+        self.judgements = {question.fingerprint: judgement for question, judgement in self.judged}
         self.good = [print for print, judgement in self.judgements.items() if judgement is Judgement.GOOD]
-        messages = {question.message for question, _ in judged}
+        self.speaks = None if asked.name is None else speaks_for(sent[0].octets, asked.name)
+        messages = {question.message for question, _ in self.judged}
         self.leading = [one for one in sent if one.tbs in messages]
 
+    def _search(self, moment: int) -> Search:
+        return Search(self.anchors, self.sent[0], self.sent[1:], self.texts, moment, purpose_of(self.asked.purpose), self.asked.limits,
+                      self.asked.profile)
+
     def at(self, moment: int) -> Result:
-        """The answer at a moment."""
-        return validate_peer(self.sent, self.anchors, self.texts, moment, self.asked.purpose, fingerprints=self.good, name=self.asked.name,
-                             limits=self.asked.limits, profile=self.asked.profile)
+        """The answer at a moment, with its alarms: a report tells them, and does not raise them."""
+        asked = self.asked
+        if self.gave_up is not None:
+            return self.gave_up
+        question = PathQuestion(moment, asked.purpose, self.speaks, asked.ignore_unreadable, asked.profile)
+        result = found_by(self._search(moment), question, self.judged, b"".join(self.good))
+        return dataclasses.replace(result, name=None if asked.name is None else str(asked.name))
 
     def facts(self, refused: Tuple[Refused, ...]) -> Facts:
         result = self.at(self.asked.moment)
@@ -255,7 +268,7 @@ class _Answers:
 
 def _same(one: Result, other: Result) -> bool:
     """Whether two answers are the same, about the same path."""
-    return (one, one.path, one.why_not) == (other, other.path, other.why_not)
+    return (one, one.path, one.why_not, bool(one.alarms)) == (other, other.path, other.why_not, bool(other.alarms))
 
 
 def _near(begins: List[Optional[int]], moment: int) -> Tuple[List[Optional[int]], bool]:

@@ -6,7 +6,7 @@ import functools
 from ctypes import POINTER, c_char_p, c_int, c_long, c_size_t, c_ulong, c_void_p
 from typing import Any, Iterator, List, Optional, Tuple
 
-from ._crypto_schemes import Key, NotServed, Scheme
+from ._crypto_schemes import JudgeFailed, Key, Scheme
 
 NAME = "libcrypto"
 _OLDEST = 0x30000000
@@ -23,6 +23,9 @@ _CALLS = {
 }
 # An error is one of the system if the highest of 32 bits is set; ERR_R_MALLOC_FAILURE is the reason in the lowest 23.
 _SYSTEM, _REASON, _NO_MEMORY = 0x80000000, 0x7FFFFF, 0xC0100
+# The number of the library that tells of an error stands above the reason. Of a wrong signature those for RSA and for elliptic curves tell,
+# and the provider.
+_LIBRARY, _OF_SIGNATURES = 23, (4, 16, 57)
 
 
 def _opened(name: str) -> Any:
@@ -54,13 +57,26 @@ def loaded() -> Any:
     return next(filter(None, map(_opened, _names())), None)
 
 
-def _want_memory(library: Any) -> None:
-    """Raises MemoryError if the last call failed for lack of memory, and leaves the queue of errors empty."""
-    lacking = False
+def _failed(library: Any, what: str) -> Exception:
+    """What is raised for a call that failed, as the queue of errors says, which is left empty."""
+    lacks = _lacks_memory(_errors(library))
+    return MemoryError("libcrypto was refused memory") if lacks else JudgeFailed(f"libcrypto does not take {what}, which is served")
+
+
+def _errors(library: Any) -> List[int]:
+    """The errors in the queue, which is left empty."""
+    found = []
     while error := library.ERR_get_error():
-        lacking = lacking or not error & _SYSTEM and error & _REASON == _NO_MEMORY
-    if lacking:
-        raise MemoryError("libcrypto was refused memory")
+        found.append(error)
+    return found
+
+
+def _lacks_memory(errors: List[int]) -> bool:
+    return any(not error & _SYSTEM and error & _REASON == _NO_MEMORY for error in errors)
+
+
+def _is_about_signature(error: int) -> bool:
+    return not error & _SYSTEM and error >> _LIBRARY & 0xFF in _OF_SIGNATURES
 
 
 class _Verification:
@@ -88,8 +104,7 @@ class _Verification:
         place = c_void_p(start)
         self.key = self.library.d2i_PUBKEY(None, ctypes.byref(place), len(info))
         if not self.key or place.value is None or start is None or place.value - start != len(info):
-            _want_memory(self.library)
-            raise NotServed("the key: OpenSSL does not take it")
+            raise _failed(self.library, "the key")
 
     def begin(self, scheme: Scheme) -> None:
         settings, digest = c_void_p(), scheme.digest.encode() or None
@@ -98,19 +113,23 @@ class _Verification:
         if scheme.pss:
             words = [(b"rsa_padding_mode", b"pss"), (b"rsa_mgf1_md", scheme.pss.mask.encode()), (b"rsa_pss_saltlen", b"%d" % scheme.pss.salt)]
         if begun != 1 or not all(self.library.EVP_PKEY_CTX_ctrl_str(settings, word, value) == 1 for word, value in words):
-            _want_memory(self.library)
-            raise NotServed("the algorithm: OpenSSL does not take it")
+            raise _failed(self.library, "the algorithm")
 
     def holds(self, message: bytes, signature: bytes) -> bool:
-        """Whether the key made the signature. What was wrong with the call was told before: whatever is not 1 is about the signature."""
-        if self.library.EVP_DigestVerify(self.context, signature, len(signature), message, len(message)) == 1:
+        """Whether the key made the signature. A 0 says that it did not, unless the queue of errors tells of anything but the signature."""
+        answer = self.library.EVP_DigestVerify(self.context, signature, len(signature), message, len(message))
+        if answer == 1:
             return True
-        _want_memory(self.library)
+        errors = _errors(self.library)
+        if _lacks_memory(errors):
+            raise MemoryError("libcrypto was refused memory")
+        if answer != 0 or not all(map(_is_about_signature, errors)):
+            raise JudgeFailed(f"libcrypto failed to verify a signature: it answered {answer}, errors {[hex(it) for it in errors]}")
         return False
 
 
 def verify(scheme: Scheme, key: Key, message: bytes, signature: bytes) -> bool:
-    """Whether the signature is good. Raises NotServed."""
+    """Whether the signature is good. Raises JudgeFailed, and MemoryError."""
     with _Verification(loaded()) as verification:
         verification.take_key(key.info)
         verification.begin(scheme)

@@ -13,7 +13,7 @@ _PLACES = (os.path.join(_HERE, "..", "..", "out", _NAME), os.path.join(_HERE, ".
 
 # What the numbers of a verdict mean (x509check.h).
 VERDICT_NUMBERS = {1: "valid", 2: "invalid", 3: "revoked", 4: "unknown", 5: "refused", 6: "not found", 7: "gave up"}
-REFUSED = next(number for number, word in VERDICT_NUMBERS.items() if word == "refused")
+INVALID, REFUSED = (next(number for number, word in VERDICT_NUMBERS.items() if word == wanted) for wanted in ("invalid", "refused"))
 VERDICT_WORDS = {number: word for number, word in VERDICT_NUMBERS.items() if number < REFUSED}
 # Of a search no path may be valid, and its limits may be used up.
 FINDING_WORDS = {number: word for number, word in VERDICT_NUMBERS.items() if number != REFUSED}

@@ -5,25 +5,26 @@ that is the first without one.
 """
 
 import collections
-import concurrent.futures
 import contextlib
 import os
+import queue
 import select
 import socket
 import subprocess
 import tempfile
 import threading
 import time
-from typing import IO, Deque, List, NamedTuple, Optional, Sequence, Tuple
+from typing import Callable, Deque, List, NamedTuple, Optional, Sequence, Set, Tuple, Union
 
-from ._lines import Answer, are_lines, is_answer, more_lines
+from ._lines import Answer, Form, are_lines, is_answer, more_lines, request_in
 from ._pem import LIMIT, printable
 
 # The longest line of an answer has the texts of a question about a value of the longest kind, in hexadecimal.
 _LINE_MOST = 4 * LIMIT + 4096
 _SHOWN = 80            # characters of a line in a message
-_ENDING_SECONDS = 5.0  # for a process to end by itself once its input has ended
+ENDING_SECONDS = 5.0   # for a process to end by itself once its input has ended
 _COMPLAINT_MOST = 1000
+_PIECE = 1 << 16
 
 
 class PartyError(Exception):
@@ -45,10 +46,12 @@ class TimeIsUp(PartyError, TimeoutError):
     """The time limit of the call has passed. If its request had been sent, the process was ended."""
 
 
-class Ends:
-    """The two ends of a link. A subclass sets `answers`, which the link's thread alone reads."""
+class Forked(PartyError):
+    """The party was made before a fork, and is its parent's: a store has one process at a time. The child makes a party of its own."""
 
-    answers: IO[bytes]
+
+class Ends:
+    """The two ends of a link."""
 
     def fileno(self) -> int:
         """Of what requests are written to."""
@@ -58,8 +61,17 @@ class Ends:
         """Writes as much as there is room for; BlockingIOError if there is none."""
         raise NotImplementedError
 
+    def read_some(self) -> bytes:
+        """What was answered, once there is something; nothing at the end. The link's thread alone reads."""
+        raise NotImplementedError
+
     def finish_requests(self) -> None:
         """No request follows: whoever answers ends by itself."""
+        raise NotImplementedError
+
+    def let_go(self) -> None:
+        """Closes the copies that a forked child has, which would keep whoever answers alive. No lock is taken: another thread of the parent
+        may have had it."""
         raise NotImplementedError
 
     def kill(self) -> None:
@@ -80,12 +92,15 @@ class ProcessEnds(Ends):
         self._writing = threading.Lock()   # (nor may a pipe that was closed be written to)
         self._complaints = tempfile.TemporaryFile()
         try:
-            self._process = subprocess.Popen(list(words), stdin=subprocess.PIPE, stdout=subprocess.PIPE, stderr=self._complaints)
+            # (without buffers, which have locks)
+            self._process = subprocess.Popen(
+                list(words), bufsize=0, stdin=subprocess.PIPE, stdout=subprocess.PIPE, stderr=self._complaints)
         except OSError as cause:
             self._complaints.close()
             raise PartyEnded(f"{self._title}: cannot be run: {cause.strerror}") from cause
         assert self._process.stdin is not None and self._process.stdout is not None
-        self._requests, self.answers = self._process.stdin, self._process.stdout
+        self._requests, self._answers = self._process.stdin, self._process.stdout
+        _open_ends.add(self)
         os.set_blocking(self._requests.fileno(), False)
 
     @property
@@ -99,6 +114,9 @@ class ProcessEnds(Ends):
         with self._writing:
             return os.write(self._requests.fileno(), octets)
 
+    def read_some(self) -> bytes:
+        return os.read(self._answers.fileno(), _PIECE)
+
     def finish_requests(self) -> None:
         with self._writing, contextlib.suppress(OSError):
             self._requests.close()
@@ -110,17 +128,23 @@ class ProcessEnds(Ends):
     def release(self) -> str:
         with self._ending:
             try:
-                status = self._process.wait(_ENDING_SECONDS)
+                status = self._process.wait(ENDING_SECONDS)
             except subprocess.TimeoutExpired:
                 self._process.kill()
                 status = self._process.wait()
         self.finish_requests()
-        self.answers.close()
+        self._answers.close()
+        _open_ends.discard(self)
         with self._complaints as file:
             file.seek(0)
             complaint = printable(file.read(_COMPLAINT_MOST).decode("utf-8", "backslashreplace").strip())
         how = f"was killed by signal {-status}" if status < 0 else f"ended with status {status}"
         return f"{self._title}: {how}{': ' if complaint else ''}{complaint}"
+
+    def let_go(self) -> None:
+        self._requests.close()
+        self._answers.close()
+        self._process.returncode = 0    # (the process is the parent's, which waits for it)
 
 
 class SocketEnds(Ends):
@@ -137,7 +161,7 @@ class SocketEnds(Ends):
         except OSError as cause:
             self._socket.close()
             raise PartyEnded(f"{path}: cannot be connected to: {cause.strerror or cause}") from cause
-        self.answers = self._socket.makefile("rb")
+        _open_ends.add(self)
 
     def fileno(self) -> int:
         return self._socket.fileno()
@@ -145,6 +169,9 @@ class SocketEnds(Ends):
     def write_some(self, octets: memoryview) -> int:
         with self._writing:
             return self._socket.send(octets, socket.MSG_DONTWAIT)
+
+    def read_some(self) -> bytes:
+        return self._socket.recv(_PIECE)
 
     def finish_requests(self) -> None:
         with contextlib.suppress(OSError):
@@ -155,18 +182,58 @@ class SocketEnds(Ends):
             self._socket.shutdown(socket.SHUT_RDWR)
 
     def release(self) -> str:
-        self.answers.close()
         with self._writing:
             self._socket.close()
+        _open_ends.discard(self)
         return f"{self._title}: the connection was shut"
 
+    def let_go(self) -> None:
+        self._socket.close()
 
-class _Asked(NamedTuple):
-    """A request without an answer: its first word, its beginning, and where the answer goes."""
 
-    command: str
+_open_ends: Set[Ends] = set()
+
+
+def _let_go() -> None:
+    for ends in list(_open_ends):
+        ends.let_go()
+    _open_ends.clear()
+
+
+os.register_at_fork(after_in_child=_let_go)
+
+
+class Asked:
+    """Requests that are written together, and where their answers go: all of them at once, or why there are none."""
+
+    def __init__(self, lines: Sequence[str], not_believed: Callable[[str], None] = lambda _: None) -> None:
+        self.lines = lines
+        self.outcome: "queue.SimpleQueue[Union[List[Answer], BaseException]]" = queue.SimpleQueue()
+        self.link: Optional["Link"] = None    # to which they were written
+        self.failure: Optional[BaseException] = None
+        self._answers: List[Answer] = []
+        self._not_believed = not_believed     # is told of each fingerprint that could not be kept
+
+    def take(self, request: "_Waiting", answer: Answer) -> None:
+        """The answer to the next one of them."""
+        if request.form is Form.BELIEVE and answer.status != 0:
+            self._not_believed(request.shown.partition(" ")[2])
+        self._answers.append(answer)
+        if len(self._answers) == len(self.lines):
+            self.outcome.put(self._answers)
+
+    def fail(self, cause: BaseException) -> None:
+        """There are no answers for this reason, whatever else is said."""
+        self.failure = cause
+        self.outcome.put(cause)
+
+
+class _Waiting(NamedTuple):
+    """A request without an answer: the form of that, its beginning, and where the answer goes."""
+
+    form: Form
     shown: str
-    answer: "concurrent.futures.Future[Answer]"
+    asked: Asked
 
 
 class Link:
@@ -175,8 +242,9 @@ class Link:
     def __init__(self, ends: Ends) -> None:
         self.ends = ends
         self._lock = threading.Lock()      # (of the two fields below)
-        self._waiting: Deque[_Asked] = collections.deque()
+        self._waiting: Deque[_Waiting] = collections.deque()
         self._failure: Optional[PartyError] = None
+        self._left = bytearray()           # (what was read and is no line yet: of the reader alone)
         self._reader = threading.Thread(target=self._read_answers, name="x509check answers", daemon=True)
         self._reader.start()
 
@@ -185,28 +253,28 @@ class Link:
         """Why nobody answers any more, if so: PartyEnded, or Garbled if what came last was asked for by nobody."""
         return self._failure
 
-    def send(self, lines: Sequence[str], deadline: float) -> List["concurrent.futures.Future[Answer]"]:
-        """Writes requests, each of which has an answer, and says where the answers will be. One thread at a time may call.
+    def send(self, asked: Asked, deadline: float) -> None:
+        """Writes requests, each of which has an answer. One thread at a time may call, and no main thread: a request that waits for its
+        answer and was not written would take that of the next one.
 
-        Raises the failure if there is one, and TimeIsUp, which ends the link, as a request may be written in part.
+        Raises the failure if there is one, and TimeIsUp. If anything is raised the link ends.
         """
-        asked = [_Asked(line.split(" ", 1)[0], line[:_SHOWN], concurrent.futures.Future()) for line in lines]
-        with self._lock:
-            if self._failure is not None:
-                raise self._failure
-            self._waiting.extend(asked)
+        waiting = [_Waiting(request_in(line).form, line[:_SHOWN], asked) for line in asked.lines]
+        octets = "".join(f"{line}\n" for line in asked.lines).encode("utf-8", "surrogatepass")
         try:
-            self._write("".join(f"{line}\n" for line in lines).encode("utf-8", "surrogatepass"), deadline)
-        except TimeIsUp:
-            self.ends.kill()
-            raise
+            with self._lock:
+                if self._failure is not None:
+                    raise self._failure
+                asked.link = self
+                self._waiting.extend(waiting)
+            self._write(octets, deadline)
         except (OSError, ValueError):
             # (of a pipe without a reader, or that was closed) The reader meets the end, and says so to those who wait.
             self.ends.kill()
-        except BaseException:
+        except BaseException as cause:
+            asked.failure = cause
             self.ends.kill()
             raise
-        return [one.answer for one in asked]
 
     def _write(self, octets: bytes, deadline: float) -> None:
         left = memoryview(octets)
@@ -222,7 +290,7 @@ class Link:
     def end(self) -> None:
         """Ends whoever answers, whatever is asked still."""
         self.ends.kill()
-        self._reader.join(2 * _ENDING_SECONDS)
+        self._reader.join(2 * ENDING_SECONDS)
 
     def close(self, seconds: float) -> None:
         """Lets whoever answers answer what was asked, and end."""
@@ -253,7 +321,7 @@ class Link:
             # What is no answer to the first request is told to whoever made it; what nobody asked for, to whoever asks next.
             self._failure = PartyEnded(how) if failure is None or is_asked else failure
         for number, one in enumerate(waiting):
-            one.answer.set_exception(failure if is_asked and number == 0 and failure is not None else PartyEnded(how))
+            one.asked.outcome.put(failure if is_asked and number == 0 and failure is not None else PartyEnded(how))
 
     def _read_answer(self) -> bool:
         """Reads an answer and hands it on; False at the end."""
@@ -264,17 +332,17 @@ class Link:
         with self._lock:
             if not self._waiting:
                 raise Garbled(f"answered {line[:_SHOWN]!r}, which nobody asked for")
-            asked = self._waiting[0]
-        if not is_answer(asked.command, status, text):
-            raise Garbled(f"{asked.shown!r} was answered {line[:_SHOWN]!r}")
-        lines = self._read_lines(more_lines(asked.command, status, text))
+            first = self._waiting[0]
+        if not is_answer(first.form, status, text):
+            raise Garbled(f"{first.shown!r} was answered {line[:_SHOWN]!r}")
+        lines = self._read_lines(more_lines(first.form, status, text))
         if lines is None:
             return False
-        if not are_lines(asked.command, status, lines):
-            raise Garbled(f"{asked.shown!r} was answered {status} and {[one[:_SHOWN] for one in lines[-3:]]!r}")
+        if not are_lines(first.form, status, lines):
+            raise Garbled(f"{first.shown!r} was answered {status} and {[one[:_SHOWN] for one in lines[-3:]]!r}")
         with self._lock:
             self._waiting.popleft()
-        asked.answer.set_result(Answer(int(status), text, lines))
+        first.asked.take(first, Answer(int(status), text, lines))
         return True
 
     def _read_lines(self, count: int) -> Optional[Tuple[str, ...]]:
@@ -288,9 +356,17 @@ class Link:
 
     def _read_line(self) -> Optional[str]:
         """The next line, without its end; None if it has none, which is what a process leaves that was killed."""
-        line = self.ends.answers.readline(_LINE_MOST)
-        if not line.endswith(b"\n"):
-            if len(line) == _LINE_MOST:
-                raise Garbled(f"answered a line of more than {_LINE_MOST} octets: {line[:_SHOWN]!r}")
-            return None
-        return line[:-1].decode("ascii", "backslashreplace")
+        searched = 0
+        while True:
+            at = self._left.find(b"\n", searched)
+            if at >= 0:
+                line = bytes(self._left[:at])
+                del self._left[:at + 1]
+                return line.decode("ascii", "backslashreplace")
+            searched = len(self._left)
+            if searched >= _LINE_MOST:
+                raise Garbled(f"answered a line of more than {_LINE_MOST} octets: {bytes(self._left[:_SHOWN])!r}")
+            piece = self.ends.read_some()
+            if not piece:
+                return None
+            self._left += piece

@@ -77,3 +77,16 @@ class Identity:
 
     def __str__(self) -> str:
         return f'"{self.subject}" serial {self.serial} sha256 {self.sha256}'
+
+
+# All octets but digits and small letters.
+_NO_WORDS = bytes(octet for octet in range(256) if octet not in b"0123456789abcdefghijklmnopqrstuvwxyz")
+
+
+def coarse_name(name: bytes) -> object:
+    """The same of two names (whole encodings) if the library takes them for one name, and of some others: their attributes without what it
+    folds or passes over. Raises ValueError for octets that are no name."""
+    return tuple(
+        tuple(sorted((attribute.members(2)[0].contents, attribute.members(2)[1].contents.lower().translate(None, _NO_WORDS))
+                     for attribute in part.members()))
+        for part in value(name).members())

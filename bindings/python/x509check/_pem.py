@@ -10,6 +10,8 @@ import enum
 import os
 from typing import Collection, Iterable, Iterator, List, NamedTuple, Optional, Tuple, Union
 
+from ._outside import hidden_at
+
 Octets = Union[bytes, bytearray, memoryview]
 Path = Union[str, "os.PathLike[str]"]
 
@@ -203,6 +205,15 @@ def _outside(line: bytes, number: int, source: Optional[str]) -> None:
         raise NotLoaded("base64 outside of a block", source, number)
 
 
+def _want_prose(lines: List[bytes], end: int, source: Optional[str]) -> None:
+    """Refuses lines between blocks, before the line with the number `end`, that hold what begins as a certificate, a list or a response in
+    base64 or in hexadecimal, or PEM in base64, however they are quoted and broken."""
+    found = hidden_at(lines)
+    if found is not None:
+        at, digits = found
+        raise NotLoaded(f"a value in {digits} outside of a block", source, end - len(lines) + at)
+
+
 def _begun(before: Optional[_Block], label: str, number: int, source: Optional[str]) -> _Block:
     if before is not None:
         raise NotLoaded(f"a BEGIN inside the block {before.label} of line {before.line}", source, number)
@@ -221,20 +232,27 @@ def _blocks(contents: Contents) -> Iterator[_Block]:
     """The blocks of PEM, in order."""
     source = contents.source
     block: Optional[_Block] = None
+    last = 0
+    between: List[bytes] = []    # the lines outside of blocks since the last one
     for number, line in _lines(contents):
         frame = _frame(line, number, source)
         if frame is None:
             if block is None:
                 _outside(line, number, source)
+                between.append(line)
             else:
                 block.lines.append(line)
         elif frame.begins:
+            _want_prose(between, number, source)
+            between.clear()
             block = _begun(block, frame.label, number, source)
         else:
             yield _ended(block, frame.label, number, source)
             block = None
+        last = number
     if block is not None:
         raise NotLoaded(f"the BEGIN {block.label} has no END", source, block.line)
+    _want_prose(between, last + 1, source)
 
 
 def _bad_line(block: _Block, source: Optional[str]) -> NotLoaded:

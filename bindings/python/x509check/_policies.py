@@ -5,6 +5,7 @@ from typing import Iterable, List, Optional, Tuple
 
 from ._arguments import Moment, Value, policies_of
 from ._der import dotted
+from ._library import INVALID
 from ._profile import Profile
 from ._query import PolicyInputs, PolicySets
 from ._verdicts import Judge, Result, Verdict, check_flag, judged_case
@@ -53,7 +54,7 @@ def _ascend(policies: List[bytes]) -> bool:
 def _with_policies(result: Result, found: PolicySets) -> ResultWithPolicies:
     """The result, with the policies. A path that is invalid has none."""
     policies = found.authority, found.user
-    if result.verdict is Verdict.INVALID and any(policies) or not all(map(_ascend, policies)):
+    if found.verdict.verdict == INVALID and any(policies) or not all(map(_ascend, policies)):
         raise RuntimeError(f"the library for C answered the policies {policies} of a path that is {result.verdict.value}")
     said = {field.name: getattr(result, field.name) for field in dataclasses.fields(Result)}
     if result.verdict is Verdict.INVALID:
@@ -99,4 +100,4 @@ def validate_with_policies(
     inputs = PolicyInputs(policies_of("initial_policies", initial_policies), inhibit_policy_mapping, require_explicit_policy, inhibit_any_policy)
     case = judged_case(anchor, chain, statements, at, purpose, verify, fingerprints, target, ignore_unreadable, profile)
     found = case.query.verdict_with_policies(case.good, inputs)
-    return _with_policies(case.result(found.verdict), found)
+    return _with_policies(case.result(found.verdict, lambda query: query.verdict_with_policies(case.good, inputs).verdict), found)

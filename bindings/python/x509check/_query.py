@@ -1,17 +1,21 @@
 """Questions about a path, and searches for one: what was handed in, as the library for C takes it, and which value it refuses."""
 
+import collections
+import copy
 import ctypes
 import dataclasses
 import itertools
-from typing import Any, Callable, Iterable, List, NamedTuple, Optional, Sequence, Tuple, Union
+from typing import Any, Callable, Dict, Iterable, List, NamedTuple, Optional, Sequence, Tuple, Union
 
+from ._alarms import Alarm, Handed
 from ._arguments import Value, der_of, is_wide, listed
-from ._certificates import origin_of
+from ._certificates import Certificate, origin_of
 from ._faults import MEMORY, Fault, Text, refusal
 from ._library import (
     REFUSED, AskedAnswer, DiagnosisAnswer, FindingAnswer, LimitFields, ObstacleFields, Place, PoliciesAnswer, PolicyInputFields, QueryFields,
     QuestionFields, Refusal, SearchFields, TextFields, VerdictAnswer, library, text_array, text_fields,
 )
+from ._names import coarse_name
 from ._pem import Loaded
 from ._profile import Profile
 
@@ -22,7 +26,7 @@ _PATH_ROOM = 129
 # There is room for so many policies first, and for so many octets of them.
 _POLICY_ROOM, _POLICY_OCTETS = 64, 1024
 
-Ignored = Tuple[Union[Loaded, int], Fault]
+Ignored = Tuple[Union[Loaded, int], Union[Fault, Alarm]]
 """A value that was left out, as it was loaded or by its number from 0, and why."""
 
 
@@ -31,8 +35,8 @@ class Limits:
     """What a search for a path may spend. It gives up if one is used up; paths that servers send take a small part of it."""
 
     signatures: int = 1_000
-    """How often a judge may be asked whether one certificate issued another. With as many as there are pairs of certificates whose names
-    match, this never ends a search."""
+    """How often a judge may be asked. If there is more to ask, about pairs of certificates whose names match and about statements, the search
+    gives up before anything is asked."""
     steps: int = 10_000
     """How many ends of paths may be looked at; each takes up to a kilobyte of memory."""
     verdicts: int = 32
@@ -81,13 +85,14 @@ class _HandedIn:
         self._wide = is_wide(profile)
         self.certificates: List[bytes] = [der_of(one, title) for one, title in zip(certificates, titles)]
         self.statements: List[bytes] = [der_of(one, f"statements[{at}]") for at, one in enumerate(handed_in)]
+        self._numbers = list(range(len(self.statements)))
         self._origins = {Text.CERTIFICATES: [*map(origin_of, certificates)], Text.STATEMENTS: [*map(origin_of, handed_in)]}
 
     def leave_out_unreadable(self) -> Tuple[Ignored, ...]:
         """Leaves out the statements that cannot be read, and says which these are, and why. Each is tried alone, beside a certificate."""
         alone = QueryFields(text_fields(self.certificates[0]), wide=self._wide)
         ignored: List[Ignored] = []
-        kept: List[bytes] = []
+        kept: List[int] = []
         for at, (statement, origin) in enumerate(zip(self.statements, self._origins[Text.STATEMENTS])):
             answer: AskedAnswer = library().x509check_questions(alone, text_array([statement]), 1, None, 0)
             refused = answer.refusal
@@ -97,9 +102,16 @@ class _HandedIn:
             elif refused.fault == MEMORY:
                 raise refusal(MEMORY, 0)
             else:
-                kept.append(statement)
-        self.statements = kept  # which can be read: none of them is refused any more
+                kept.append(at)
+        # (these can be read: none of them is refused any more)
+        self.statements, self._numbers = [self.statements[at] for at in kept], kept
         return tuple(ignored)
+
+    def handed(self, at: int) -> Handed:
+        """A statement as its caller knows it."""
+        number = self._numbers[at]
+        origin = self._origins[Text.STATEMENTS][number]
+        return number if origin is None else origin
 
     def questions(self) -> List[QuestionFields]:
         """What may be asked. If there is more than there was room for, everything is read a second time."""
@@ -144,6 +156,12 @@ class Query(_HandedIn):
         room = min(self._fields.path_count * (1 + 3 * len(self.statements)), _MOST_ROOM)
         return self._asked(library().x509check_questions, self._fields, room)
 
+    def in_order(self, order: Sequence[int]) -> "Query":
+        """The same, with the statements in another order."""
+        other = copy.copy(self)
+        other.statements, other._numbers = ([values[at] for at in order] for values in (self.statements, self._numbers))
+        return other
+
     def verdict(self, fingerprints: bytes) -> VerdictAnswer:
         """The verdict, if the signatures with these fingerprints, of 32 octets each, are good."""
         statements, count = text_array(self.statements), len(self.statements)
@@ -178,6 +196,16 @@ def _cut(octets: bytes, lengths: Sequence[int]) -> List[bytes]:
     return [octets[end - length:end] for end, length in zip(ends, lengths)]
 
 
+def _coarse_names(octets: bytes) -> Tuple[object, object]:
+    """Subject and issuer, each the same of two names if the library takes these for one name: attributes without what it passes over or
+    folds."""
+    try:
+        certificate = Certificate.from_der(octets)
+        return coarse_name(certificate.subject), coarse_name(certificate.issuer)
+    except ValueError:
+        return None, None
+
+
 class Search(_HandedIn):
     """Anchors, the target, and other certificates in any order; statements, a moment, a purpose, limits and a profile."""
 
@@ -191,6 +219,30 @@ class Search(_HandedIn):
         self._fields = SearchFields(
             text_array(top), len(top), text_fields(self.target), text_array(bag_texts), len(bag_texts), moment, text_fields(purpose),
             LimitFields(most.signatures, most.steps, most.verdicts), self._wide)
+
+    def may_ask_more(self, most: int) -> bool:
+        """Whether the library may ask about more pairs of certificates than so many."""
+        tops, bag = self._fields.anchor_count, self._fields.bag_count
+        return (1 + bag) * (tops + bag) > most and self.most_pairs() > most
+
+    def most_pairs(self) -> int:
+        """How many pairs of certificates the library will ask about, or somewhat more. Names are compared more coarsely than it compares them,
+        and of a certificate that cannot be read nothing is counted: the library refuses it before it looks at pairs."""
+        above = [_coarse_names(octets) for octets in (*self.certificates[:self._fields.anchor_count],
+                                                      *self.certificates[self._fields.anchor_count + 1:])]
+        subjects = collections.Counter(subject for subject, _ in above)
+        issuers_of: Dict[object, List[object]] = {}
+        for subject, issuer in above[self._fields.anchor_count:]:
+            issuers_of.setdefault(subject, []).append(issuer)
+        left, seen, pairs = [_coarse_names(self.target)[1]], set(), 0
+        pairs += subjects[left[0]]
+        while left:
+            name = left.pop()
+            if name not in seen:
+                seen.add(name)
+                pairs += sum(subjects[issuer] for issuer in issuers_of.get(name, ()))
+                left += issuers_of.get(name, [])
+        return pairs
 
     def questions(self) -> List[QuestionFields]:
         # Enough for a few pairs of certificates, and lists of their issuers.
@@ -216,6 +268,12 @@ class Search(_HandedIn):
         if answer.path_count > _PATH_ROOM:
             raise RuntimeError(f"the library for C answered a path of {answer.path_count} certificates")
         return answer.verdict, [self.certificates[at] for at in path[:answer.path_count]]
+
+    def on_path(self, path: Sequence[bytes], moment: int, purpose: bytes, profile: Profile) -> Query:
+        """The question about a path that was found, by the same statements."""
+        query = Query(path[0], path[1:], self.statements, moment, purpose, profile)
+        query._numbers, query._origins = self._numbers, self._origins
+        return query
 
     def diagnosis(self, fingerprints: bytes) -> Diagnosis:
         """Why no path is found, if these signatures are good."""

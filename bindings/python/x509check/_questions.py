@@ -1,7 +1,7 @@
 """What a judge of signatures may be asked (RFC 5280, 6; RFC 6960, 3.2)."""
 
 import dataclasses
-from typing import Iterable, List, Union
+from typing import Iterable, List, Optional, Union
 
 from ._arguments import Value
 from ._profile import Profile
@@ -28,6 +28,14 @@ def ask(query: Union[Query, Search]) -> List[SignatureQuestion]:
     part = query.part
     return [SignatureQuestion(part(it.algorithm), part(it.key_info), part(it.message), part(it.signature), bytes(it.fingerprint))
             for it in query.questions()]
+
+
+def ask_within(search: Search, most: int) -> Optional[List[SignatureQuestion]]:
+    """Each different question of a search, once; None if there are more than so many. Not many more are ever built."""
+    if search.may_ask_more(most):
+        return None
+    found = {question.fingerprint: question for question in ask(search)}
+    return list(found.values()) if len(found) <= most else None
 
 
 def questions(

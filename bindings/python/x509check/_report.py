@@ -5,6 +5,7 @@ import functools
 import hashlib
 from typing import Iterable, List, Optional, Tuple, Union
 
+from ._alarms import Unjudged
 from ._arguments import PURPOSES, Moment, Value, der_of, dotted_purpose, listed, seconds_of
 from ._certificates import Certificate
 from ._drawn import NOT_ASKED, SIGNATURES, class_of, cut, middle, moment_text, path_picture, role, stretch_at, time_picture, verdict_text
@@ -21,6 +22,7 @@ from ._report_style import SCRIPT, STYLE
 from ._verdicts import Judge, Reason, Result, RevocationReason, Verdict
 
 _MOST_NAMES, _MOST_TEXT = 32, 400
+_ALARM = "Something that was handed in may say otherwise than the rest: take nothing for valid before that is cleared up."
 _PURPOSES = {dotted: name for name, dotted in PURPOSES.items()}
 _WORDS = {
     Verdict.VALID: "Each certificate of the path meets the conditions of RFC 5280, 6.1; of each a current statement speaks, and none is revoked.",
@@ -51,7 +53,8 @@ def report(
     `validate_peer`, whose verdict it tells, with the path, what is said of each signature, what each statement says of each certificate of
     the path, and the verdict over time: the library is asked once in each stretch of time in which nothing begins or ends.
 
-    Where `validate_peer` raises a Fault, the report says what cannot be read, and where; there is no verdict in it then. What is too long
+    Where `validate_peer` raises a Fault, the report says what cannot be read, and where; there is no verdict in it then. Where it raises
+    Unjudged or Contradiction, the report shows an alarm in the place of the verdict. What is too long
     to be shown is cut, and the report says so. It takes some seconds for large lists, which are read anew for each moment.
 
     The words are those of the program, which has to be there: ProgramMissing is raised without it. A moment, a purpose, a name or limits
@@ -142,7 +145,7 @@ def _verdict(facts: Facts) -> Element:
     result = facts.result
     if result is None:
         return tag("div", tag("strong", "no verdict"), tag("p", "Something that was handed in cannot be read; see below."), class_="verdict none")
-    sentences = _sentences(result) + _by_which(facts, result)
+    sentences = _sentences(result) + _by_which(facts, result) + _left_out(result)
     return tag("div", tag("strong", verdict_text(result)), *(tag("p", it) for it in sentences), class_=f"verdict {class_of(result)}")
 
 
@@ -153,9 +156,14 @@ def _by_which(facts: Facts, result: Result) -> List[str]:
             if (said.number, said.result.verdict) == (result.certificate, Verdict.REVOKED) for begin, end in it.windows[:1]]
 
 
+def _left_out(result: Result) -> List[str]:
+    """Which statements were left out because nobody could judge them."""
+    return [cut(f"Left out, as was asked for: {why}.", _MOST_TEXT) for _, why in result.ignored if isinstance(why, Unjudged)]
+
+
 def _sentences(result: Result) -> List[str]:
     """What the verdict says, of whom, and why."""
-    found = [_WORDS[result.verdict]]
+    found = [f"{_ALARM} {str(alarm)[:1].upper()}{str(alarm)[1:]}." for alarm in result.alarms] or [_WORDS[result.verdict]]
     if result.decides is not None:
         found.append(f"Certificate {result.certificate} decides: {_named(result.decides)}.")
     if result.reason is not None:

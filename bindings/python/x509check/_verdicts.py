@@ -5,13 +5,16 @@ import enum
 import inspect
 from typing import Callable, Iterable, List, Mapping, NamedTuple, Optional, Sequence, Tuple, TypeVar, Union
 
+from ._alarms import Alarm, Contradiction, Unjudged
 from ._arguments import Moment, Value, der_of, listed, octets_of, purpose_of, seconds_of
 from ._certificates import Certificate
+from ._key_usage import goes_with
 from ._library import GAVE_UP, PATHS_END, TARGET_AT_FAULT, VERDICT_WORDS, VerdictAnswer
 from ._names import Identity
 from ._profile import Profile
 from ._query import Diagnosis, Ignored, Query
 from ._questions import SignatureQuestion, ask
+from ._standing import Rivals, Standing, standing_of
 from .signatures import Judgement, judge_all
 
 # A path has at most so many certificates.
@@ -159,16 +162,19 @@ class Result:
     judgements: Tuple[Judged, ...] = dataclasses.field(default=(), compare=False, repr=False)
     """What the judge said of each question that was asked."""
     ignored: Tuple[Ignored, ...] = dataclasses.field(default=(), compare=False)
-    """What could not be read and was left out (`ignore_unreadable`, `ignore_unreadable_certificates`)."""
+    """What could not be read, or judged, and was left out (`ignore_unreadable`, `ignore_unreadable_certificates`)."""
     path: Tuple[Identity, ...] = dataclasses.field(default=(), compare=False)
     """The certificates of the path, from the anchor on to the one in question; none if no path was found. `certificate` counts along it."""
     name: Optional[str] = dataclasses.field(default=None, compare=False)
     """The host, address or mailbox that was asked for, if one was."""
     why_not: Optional[WhyNot] = dataclasses.field(default=None, compare=False)
     """Why no path meets the conditions, if the verdict is NOT_FOUND."""
+    alarms: Tuple[Alarm, ...] = dataclasses.field(default=(), compare=False)
+    """What stands against an UNKNOWN that somebody would accept: a statement that nobody could judge, or statements that contradict each
+    other. For a VALID verdict the call raises it."""
 
     def __bool__(self) -> bool:
-        return bool(self.verdict)
+        return bool(self.verdict) and not self.alarms
 
     def __str__(self) -> str:
         reason = "" if self.reason is None else f" ({_in_words(self.reason.name)})"
@@ -176,11 +182,12 @@ class Result:
         name = "" if self.name is None else f", asked for {self.name}"
         by = "" if self.certificate is None else f", by certificate {self.certificate}: {self.decides}" if self.decides else ", by the path itself"
         why = "" if self.why_not is None else f"; {self.why_not}"
-        return f"{self.verdict.value}{reason}: {about}{name}{by}{why}"
+        alarms = "".join(f"; alarm: {alarm}" for alarm in self.alarms)
+        return f"{self.verdict.value}{reason}: {about}{name}{by}{why}{alarms}"
 
     def require_valid(self: "Some") -> "Some":
         """The result itself; raises NotValid unless the verdict is VALID."""
-        if self.verdict is not Verdict.VALID:
+        if not self:
             raise NotValid(self)
         return self
 
@@ -278,6 +285,57 @@ def why_not_of(diagnosis: Diagnosis, target: Identity) -> WhyNot:
     return WhyNot(target, None, above, anchors, tuple((identity_of(one), Reason(rank)) for one, rank in diagnosis.obstacles))
 
 
+def with_alarms(result: Result, query: Query, judged: Sequence[Judged], good: bytes, leave_out: bool,
+                verdict_of: Callable[[Query], VerdictAnswer]) -> Result:
+    """A result that somebody may accept, with what stands against it. Statements that nobody could judge are left out if that was asked for,
+    and the result names them.
+
+    The library is asked once more for its questions, if some statements may contradict each other or nobody could judge a signature; and for
+    the verdict at most 15 times more, if so many statements of an issuer have one number or the same times.
+    """
+    if result.verdict not in (Verdict.VALID, Verdict.UNKNOWN):
+        return result
+    serials = {Certificate.from_der(one).serial for one in query.certificates[1:]}
+    rivals = Rivals(query.statements, serials)
+    if not rivals and all(judgement in (Judgement.GOOD, Judgement.WRONG) for _, judgement in judged):
+        return result
+    stands = standing_of(query, _said_of(judged, good))
+    unjudged = tuple(query.handed(at) for at, it in enumerate(stands) if it.standing is Standing.UNJUDGED)
+    alarms: List[Alarm] = []
+    if unjudged and leave_out:
+        result = dataclasses.replace(result, ignored=result.ignored + tuple((it, Unjudged((it,))) for it in unjudged))
+    elif unjudged:
+        alarms.append(Unjudged(unjudged))
+    try:
+        for order in rivals.orders(stands):
+            other = result_of(verdict_of(query.in_order(order)), VERDICT_WORDS, query.certificates)
+            if other != result:
+                alarms.append(Contradiction(dataclasses.replace(other, target=result.target)))
+                break
+    except ValueError:
+        alarms.append(Contradiction())
+    return dataclasses.replace(result, alarms=tuple(alarms))
+
+
+Raising = TypeVar("Raising", bound="Result")
+
+
+def without_alarms(result: Raising) -> Raising:
+    """The result itself; raises the first alarm of one that is valid."""
+    if result.verdict is Verdict.VALID and result.alarms:
+        raise result.alarms[0]
+    return result
+
+
+def _said_of(judged: Sequence[Judged], good: bytes) -> Callable[[bytes], Judgement]:
+    """What is said of a question with a fingerprint: if nobody was asked, those that were handed in are good and all others are wrong."""
+    if judged:
+        said = {question.fingerprint: judgement for question, judgement in judged}
+        return lambda fingerprint: said.get(fingerprint, Judgement.NOT_SERVED)
+    prints = {good[at:at + 32] for at in range(0, len(good), 32)}
+    return lambda fingerprint: Judgement.GOOD if fingerprint in prints else Judgement.WRONG
+
+
 class Case(NamedTuple):
     """A query whose signatures were judged: the fingerprints of the good ones, what the judge said, and what was left out."""
 
@@ -285,12 +343,18 @@ class Case(NamedTuple):
     good: bytes
     judged: Tuple[Judged, ...]
     ignored: Tuple[Ignored, ...]
+    purpose: Optional[str]
+    leave_out: bool
 
-    def result(self, answer: VerdictAnswer) -> Result:
-        """What the library answered, and whom it is about."""
+    def result(self, answer: VerdictAnswer, verdict_of: Callable[[Query], VerdictAnswer]) -> Result:
+        """What the library answered, and whom it is about, as far as keyUsage and the statements let it; `verdict_of` answers the same with
+        the statements in another order. Raises an Alarm."""
         path = self.query.certificates
         about = identity_of(path[-1]) if 1 < len(path) <= 1 + _MOST else None
-        return dataclasses.replace(result_of(answer, VERDICT_WORDS, path), target=about, judgements=self.judged, ignored=self.ignored)
+        result = dataclasses.replace(result_of(answer, VERDICT_WORDS, path), target=about, judgements=self.judged, ignored=self.ignored)
+        if result.verdict is not Verdict.INVALID and not goes_with(path[-1], self.purpose):
+            return dataclasses.replace(result, verdict=Verdict.INVALID, certificate=len(path) - 1, reason=Reason.PURPOSE, decides=about)
+        return without_alarms(with_alarms(result, self.query, self.judged, self.good, self.leave_out, verdict_of))
 
 
 def judged_case(anchor: Value, chain: Iterable[Value], statements: Iterable[Value], at: Moment, purpose: Optional[str], verify: Optional[Judge],
@@ -304,7 +368,7 @@ def judged_case(anchor: Value, chain: Iterable[Value], statements: Iterable[Valu
     ignored = query.leave_out_unreadable() if ignore_unreadable else ()
     _check_target(query, target)
     judged = judged_by(different(ask(query)), verify) if given is None else ()
-    return Case(query, good_prints(judged) if given is None else given, judged, ignored)
+    return Case(query, good_prints(judged) if given is None else given, judged, ignored, purpose, ignore_unreadable)
 
 
 def validate(
@@ -336,14 +400,20 @@ def validate(
     that were found good elsewhere, and no other is accepted.
 
     A statement that cannot be read refuses the question. With `ignore_unreadable` it is left out, as if it had not been handed in, and
-    `Result.ignored` names it: the verdict may then rest on an older statement.
+    `Result.ignored` names it: the verdict may then rest on an older statement. The same holds of a statement that may be of an issuer of the
+    path, and whose signature nobody could judge (NOT_SERVED, REFUSED): Unjudged is raised if the verdict would be valid.
+
+    Of two statements of one issuer that contradict each other, with one number or the same times, the first counts. If the verdict would be
+    valid, and in another order is not, Contradiction is raised. Where the verdict is UNKNOWN both are in `Result.alarms`.
+
+    With one of the six purposes that have a name, the keyUsage of the certificate in question has to go with it too (RFC 5280, 4.2.1.12).
 
     In the profile WIDE a list that is published at a point speaks of the certificates whose cRLDistributionPoints name that point; in STATED
     it cannot be read. In WIDE alone responses by SHA-256 count, and name constraints on mail addresses and on hosts of URIs are processed.
     It refuses certificates of the chain in which points, mail addresses or these constraints are malformed.
 
-    Raises a Fault if a certificate or a statement cannot be read, ValueError for a moment, a purpose, a target or a fingerprint that is
-    none, and TypeError for arguments and answers of a judge that are of another kind.
+    Raises a Fault if a certificate or a statement cannot be read, Unjudged and Contradiction, ValueError for a moment, a purpose, a target or
+    a fingerprint that is none, and TypeError for arguments and answers of a judge that are of another kind.
     """
     case = judged_case(anchor, chain, statements, at, purpose, verify, fingerprints, target, ignore_unreadable, profile)
-    return case.result(case.query.verdict(case.good))
+    return case.result(case.query.verdict(case.good), lambda query: query.verdict(case.good))

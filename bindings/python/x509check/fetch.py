@@ -17,20 +17,23 @@ import enum
 import json
 import os
 import random
-import tempfile
 import time
 from typing import Callable, Dict, Iterable, List, NamedTuple, NoReturn, Optional, Sequence, Set, Tuple
 
 from . import _ocsp
 from ._arguments import Moment, Value, listed, seconds_of
 from ._certificates import Certificate
+from ._contradictions import would_revoke
+from ._held import HeldList, Listing, key_of
 from ._http import Body, Client, HttpLimits, NotFetched, NotServed, Validators, is_public
+from ._kept_files import replace_file
+from ._lines import CONTRADICTED
 from ._locations import BadLocations, Locations, Point, locations_of
 from ._names import Identity
 from ._party import Delivery, Party, Refused
-from ._peers import sent_by
+from ._peers import sent_by, validate_peer
 from ._pem import Kind, Path
-from ._statement_times import list_until, response_until
+from ._statement_times import list_until, list_window, response_until
 from ._verdicts import Result
 from .signatures import Judgement
 
@@ -50,7 +53,10 @@ class Outcome(enum.Enum):
     TAKEN = "taken"
     """A list or a response came, and the party took it; or a certificate came that signed the one that named the address."""
     UNCHANGED = "unchanged"
-    """The server has what the party took before."""
+    """The server has what the party took before, and holds."""
+    CONTRADICTED = "contradicted"
+    """What came is signed, and says something else under the number or the times of a statement that the party holds: it counts for nothing,
+    and its issuer has to say which of the two does."""
     REFUSED = "refused"
     """Octets came, and the party refused them, or they are no certificate of the issuer."""
     NOT_FETCHED = "not fetched"
@@ -77,6 +83,8 @@ class Fetched:
     """Of what the party refused, with its fault and offset."""
     until: Optional[int] = None
     """nextUpdate of what was taken or is unchanged, in seconds from 1970-01-01T00:00:00Z."""
+    is_alarm: bool = False
+    """Whether it is contradicted, and would revoke the certificate that names the address."""
 
     def __bool__(self) -> NoReturn:
         raise TypeError("what was fetched has no truth of its own: compare its outcome")
@@ -84,7 +92,8 @@ class Fetched:
     def __str__(self) -> str:
         told = "" if self.until is None else f" until {_written(self.until)}"
         why = self.why or ("" if self.delivery is None else str(self.delivery))
-        return f"{self.outcome.value} {self.kind.value} {self.url or '-'}: {why}{told}; named by {self.about}"
+        alarm = ": ALARM, it revokes the certificate and contradicts what is held" if self.is_alarm else ""
+        return f"{self.outcome.value} {self.kind.value} {self.url or '-'}: {why}{alarm}{told}; named by {self.about}"
 
 
 @dataclasses.dataclass(frozen=True)
@@ -112,6 +121,9 @@ class Schedule:
     most: int = 86_400
     after_failure: int = 900
     """At most so long if an address failed."""
+    whole: int = 86_400
+    """A list is asked for whole at least once in so long, and in a quarter of the time for which it counts, whatever a server says of what it
+    has: an answer on the way may have been somebody else's."""
 
     def again(self, now: int, fetched: Sequence[Fetched], chance: Callable[[], float] = random.random) -> int:
         """The moment, of a fetch at `now`. `chance` answers a number from 0 to 1."""
@@ -120,7 +132,7 @@ class Schedule:
         if untils:
             left = min(untils) - now
             wait = left - 0.1 * left * chance()
-        if any(one.outcome in (Outcome.REFUSED, Outcome.NOT_FETCHED) for one in fetched):
+        if any(one.outcome in (Outcome.REFUSED, Outcome.CONTRADICTED, Outcome.NOT_FETCHED) for one in fetched):
             wait = min(wait, self.after_failure)
         return now + int(min(max(wait, self.least), self.most))
 
@@ -130,17 +142,21 @@ class BadMemory(ValueError):
 
 
 class _Noted(NamedTuple):
-    """What is noted of an address, under an issuer."""
+    """What is noted of an address, under an issuer: what the server said, the list that it brought, and when it was sent whole."""
 
     validators: Validators
-    until: Optional[int]
+    number: int
+    since: int
+    until: int
+    moment: int
+
+    def is_held(self, lists: Iterable[HeldList]) -> bool:
+        return any((one.number, one.since, one.until) == self[1:4] for one in lists)
 
 
 class Memory:
-    """What servers said of what was taken, so that it is not sent again: for each address, and the issuer under which it was delivered.
-
-    It belongs to the store that took it. Whoever makes a new store begins with a new memory.
-    """
+    """What servers said of lists that were taken, so that they are not sent again: for each address, and the issuer under which it was
+    delivered. What is noted counts as long as the store holds the list that it is about, and for a time (`Schedule.whole`)."""
 
     def __init__(self) -> None:
         self._noted: Dict[str, _Noted] = {}
@@ -149,12 +165,14 @@ class Memory:
     def _key(url: str, issuer: Certificate) -> str:
         return f"{issuer.identity.sha256} {url}"
 
-    def of(self, url: str, issuer: Certificate) -> _Noted:
-        return self._noted.get(self._key(url, issuer), _Noted(Validators(), None))
+    def of(self, url: str, issuer: Certificate) -> Optional[_Noted]:
+        return self._noted.get(self._key(url, issuer))
 
-    def note(self, url: str, issuer: Certificate, validators: Validators, until: Optional[int]) -> None:
-        if validators.headers():
-            self._noted[self._key(url, issuer)] = _Noted(validators, until)
+    def note(self, url: str, issuer: Certificate, validators: Validators, held: Optional[HeldList], moment: int) -> None:
+        """Notes what came whole at a moment, if the store holds that list now; else nothing is known of the address any more."""
+        self._noted.pop(self._key(url, issuer), None)
+        if held is not None and validators.headers():
+            self._noted[self._key(url, issuer)] = _Noted(validators, held.number, held.since, held.until, moment)
 
     @classmethod
     def load(cls, path: Path) -> "Memory":
@@ -163,28 +181,22 @@ class Memory:
         with open(path, encoding="utf-8") as file:
             try:
                 rows = json.load(file)
-                for key, etag, last_modified, until in rows:
+                for key, etag, last_modified, *numbers in rows:
                     texts = [key, *(it for it in (etag, last_modified) if it is not None)]
-                    if not all(isinstance(it, str) for it in texts) or type(until) not in (int, type(None)):
+                    if not all(isinstance(it, str) for it in texts) or not all(type(it) in (int, type(None)) for it in numbers):
                         raise ValueError("a row is of another form")
-                    memory._noted[key] = _Noted(Validators(etag, last_modified), until)
+                    # (a row of version 1.0.0 has one number: it does not say which list it is about, and counts for nothing)
+                    if len(numbers) != 1:
+                        number, since, until, moment = map(int, numbers)
+                        memory._noted[key] = _Noted(Validators(etag, last_modified), number, since, until, moment)
             except (TypeError, ValueError, RecursionError) as cause:
                 raise BadMemory(f"{os.fsdecode(path)}: {cause}") from cause
         return memory
 
     def save(self, path: Path) -> None:
         """Writes it to a file, which it is wholly or not at all. Raises OSError."""
-        rows = [[key, it.validators.etag, it.validators.last_modified, it.until] for key, it in sorted(self._noted.items())]
-        name = os.path.abspath(os.fsdecode(path))
-        with tempfile.NamedTemporaryFile("w", dir=os.path.dirname(name), encoding="utf-8", delete=False) as file:
-            try:
-                json.dump(rows, file, indent=0)
-                file.flush()
-                os.fsync(file.fileno())
-                os.replace(file.name, name)
-            except BaseException:
-                os.unlink(file.name)
-                raise
+        rows = [[key, it.validators.etag, it.validators.last_modified, *it[1:]] for key, it in sorted(self._noted.items())]
+        replace_file(path, json.dumps(rows, indent=0).encode("ascii"))
 
 
 class _Pair(NamedTuple):
@@ -264,9 +276,15 @@ class _Run:
     # ---- the path
 
     def _verdict(self, left_out: Sequence[Identity] = ()) -> Result:
-        """The party's verdict, without these certificates."""
+        """The party's verdict, without these certificates. If it withholds one, as a statement contradicts what it holds, that is as if it
+        held nothing: what is newer than both may be fetched."""
         sent, anchors = ([one for one in them if one.identity not in left_out] for them in ([*self._sent, *self._issuers], self._anchors))
-        return self._party.validate_peer(sent, anchors, self._at)
+        try:
+            return self._party.validate_peer(sent, anchors, self._at)
+        except Refused as refusal:
+            if refusal.answer != CONTRADICTED:
+                raise
+            return validate_peer(sent, anchors, [], self._at, verify=self._party.verify)
 
     def _named(self, identity: Identity) -> Certificate:
         """The certificate at hand that an answer names."""
@@ -359,16 +377,46 @@ class _Run:
 
     def _ask(self, kind: Kind, url: str, pair: _Pair) -> bool:
         """Whether what an address has was taken, or is unchanged."""
-        noted = self._memory.of(url, pair.issuer) if kind is Kind.LIST else None
+        noted = self._noted(url, pair.issuer) if kind is Kind.LIST else None
         request = None if kind is Kind.LIST else _ocsp.request_for(pair.certificate, pair.issuer)
         body = self._fetch(kind, url, pair.certificate, Validators() if noted is None else noted.validators, request)
         if body is None:
             return False
         if body.octets is None:
-            until = None if noted is None else noted.until
+            if noted is None:
+                self._tell(Outcome.NOT_FETCHED, kind, url, pair.certificate, "the server says that nothing changed, and was not asked that")
+                return False
+            until = noted.until
             self._tell(Outcome.UNCHANGED, kind, url, pair.certificate, "the server has what was taken before", until=until)
             return True
         return self._deliver(kind, url, pair, body)
+
+    # ---- what the party holds
+
+    def _listing(self, issuer: Certificate) -> Listing:
+        """What the party holds of an issuer; nothing if it cannot say so: then each list is asked for whole."""
+        try:
+            return self._party.listing().of_issuer(key_of(issuer))
+        except Refused:
+            return Listing((), ())
+
+    def _noted(self, url: str, issuer: Certificate) -> Optional[_Noted]:
+        """What is noted of an address, if the party still holds the list that came, and it was sent whole not long ago."""
+        noted = self._memory.of(url, issuer)
+        if noted is None:
+            return None
+        passed = int(time.time()) - noted.moment
+        if not 0 <= passed < min(self._schedule.whole, (noted.until - noted.since) // 4):
+            return None
+        return noted if noted.is_held(self._listing(issuer).lists) else None
+
+    def _held(self, issuer: Certificate, octets: bytes) -> Optional[HeldList]:
+        """The list that the party holds, if it is the one that was delivered."""
+        try:
+            window = list_window(octets)
+        except ValueError:
+            return None
+        return next((one for one in self._listing(issuer).lists if (one.since, one.until) == window), None)
 
     def _deliver(self, kind: Kind, url: str, pair: _Pair, body: Body) -> bool:
         assert body.octets is not None
@@ -378,9 +426,13 @@ class _Run:
             refused = refusal if isinstance(refusal, Refused) else None
             self._tell(Outcome.REFUSED, kind, url, pair.certificate, str(refusal), refused=refused)
             return False
+        if delivery.contradicted:
+            is_alarm = would_revoke(body.octets, pair.issuer, [pair.certificate], self._at)
+            self._tell(Outcome.CONTRADICTED, kind, url, pair.certificate, delivery=delivery, is_alarm=is_alarm)
+            return False
         until = _until(kind, body.octets, pair.certificate)
         if kind is Kind.LIST:
-            self._memory.note(url, pair.issuer, body.validators, until)
+            self._memory.note(url, pair.issuer, body.validators, self._held(pair.issuer, body.octets), int(time.time()))
         is_about_it = kind is Kind.LIST or until is not None
         why = "" if is_about_it else f"{delivery}, and nothing about the certificate that was asked about"
         self._tell(Outcome.TAKEN, kind, url, pair.certificate, why, delivery=delivery, until=until)
@@ -419,9 +471,9 @@ class _Run:
 
     def _tell(
         self, outcome: Outcome, kind: Kind, url: str, certificate: Certificate, why: str = "", *, delivery: Optional[Delivery] = None,
-        refused: Optional[Refused] = None, until: Optional[int] = None,
+        refused: Optional[Refused] = None, until: Optional[int] = None, is_alarm: bool = False,
     ) -> None:
-        told = Fetched(outcome, kind, url, certificate.identity, why, delivery, refused, until)
+        told = Fetched(outcome, kind, url, certificate.identity, why, delivery, refused, until, is_alarm)
         # (a certificate that stands in several paths says the same in each)
         if told not in self._fetched:
             self._fetched.append(told)

@@ -4,9 +4,9 @@
     for question, opinion in zip(questions, opinions(questions, strict)):
         if opinion.judgement is Judgement.GOOD: ..
 
-Served are RSA (PKCS #1 v1.5, and RSASSA-PSS with all parameters of RFC 4055) with moduli of 512 to 16384 bits, ECDSA on named curves, both
-with SHA-1 and SHA-2, Ed25519 and Ed448. The package cryptography verifies where it is there, and else OpenSSL's libcrypto (3.0 or later).
-Nothing here loads the library of x509check.
+Served are RSA (PKCS #1 v1.5, and RSASSA-PSS with all parameters of RFC 4055) with moduli of 512 to 16384 bits, of which a policy lets 2048
+to 8192 unless it says otherwise, ECDSA on named curves, both with SHA-1 and SHA-2, Ed25519 and Ed448. The package cryptography verifies where
+it is there, and else OpenSSL's libcrypto (3.0 or later). Nothing here loads the library of x509check.
 """
 
 import dataclasses
@@ -18,7 +18,8 @@ from typing import TYPE_CHECKING, AbstractSet, Dict, Iterable, List, NamedTuple,
 
 from . import _crypto_package, _libcrypto
 from ._crypto_schemes import (
-    CURVES, DIGESTS, RSA_BITS_LEAST, RSA_BITS_MOST, SIGNATURE_OCTETS, Key, Kind, NotServed, Scheme, read_key, read_scheme, wrong_without_engine,
+    CURVES, DIGESTS, RSA_BITS_LEAST, RSA_BITS_MOST, SIGNATURE_OCTETS, JudgeFailed, Key, Kind, NotServed, Scheme, read_key, read_scheme,
+    want_point, wrong_without_engine,
 )
 
 if TYPE_CHECKING:
@@ -72,14 +73,18 @@ class Policy:
     """Of the modulus, 512 to 16384."""
     curves: AbstractSet[str] = SERVED_CURVES
     """Of ECDSA and EdDSA."""
+    maximum_rsa_bits: int = 8192
+    """Of the modulus, 512 to 16384: the work grows faster than the bits."""
 
     def __post_init__(self) -> None:
         object.__setattr__(self, "digests", _subset("digests", self.digests, SERVED_DIGESTS))
         object.__setattr__(self, "curves", _subset("curves", self.curves, SERVED_CURVES))
-        if isinstance(self.minimum_rsa_bits, bool) or not isinstance(self.minimum_rsa_bits, int):
-            raise TypeError(f"minimum_rsa_bits is an int and not {self.minimum_rsa_bits!r}")
-        if not RSA_BITS_LEAST <= self.minimum_rsa_bits <= RSA_BITS_MOST:
-            raise ValueError(f"minimum_rsa_bits: {self.minimum_rsa_bits} is none of {RSA_BITS_LEAST} to {RSA_BITS_MOST}")
+        for field in ("minimum_rsa_bits", "maximum_rsa_bits"):
+            bits = getattr(self, field)
+            if isinstance(bits, bool) or not isinstance(bits, int):
+                raise TypeError(f"{field} is an int and not {bits!r}")
+            if not RSA_BITS_LEAST <= bits <= RSA_BITS_MOST:
+                raise ValueError(f"{field}: {bits} is none of {RSA_BITS_LEAST} to {RSA_BITS_MOST}")
 
     def _refusals(self, scheme: Scheme, key: Key) -> Dict[str, str]:
         """Why it refuses the scheme or the key, by the field that says so."""
@@ -89,6 +94,8 @@ class Policy:
             found["digests"] = f"the digest {' and '.join(weak)}"
         if key.kind is Kind.RSA and key.bits < self.minimum_rsa_bits:
             found["minimum_rsa_bits"] = f"an RSA key of {key.bits} bits, which is less than {self.minimum_rsa_bits}"
+        if key.kind is Kind.RSA and key.bits > self.maximum_rsa_bits:
+            found["maximum_rsa_bits"] = f"an RSA key of {key.bits} bits, which is more than {self.maximum_rsa_bits}"
         if key.curve and key.curve not in self.curves:
             found["curves"] = f"the curve {key.curve}"
         return found
@@ -145,8 +152,11 @@ def _opinion(texts: _Texts, policy: Policy, engine: ModuleType) -> Opinion:
         if refusals:
             return Opinion(Judgement.REFUSED, "; ".join(refusals.values()), tuple(refusals))
         wrong = wrong_without_engine(scheme, key, texts.signature)
-        if not wrong and engine.verify(scheme, key, texts.message, texts.signature) is True:
-            return Opinion(Judgement.GOOD)
+        if not wrong:
+            want_point(key)
+            # What is wrong is looked at once more: the libraries do not report each lack of memory.
+            if any(engine.verify(scheme, key, texts.message, texts.signature) is True for _ in range(2)):
+                return Opinion(Judgement.GOOD)
         return Opinion(Judgement.WRONG, wrong or "the key did not make it of this message")
     except NotServed as cause:
         return Opinion(Judgement.NOT_SERVED, str(cause))
@@ -156,7 +166,8 @@ def opinions(questions: Iterable["SignatureQuestion"], policy: Policy = Policy()
     """What is said of each signature, in order; each different question is looked at once. `engine` is one of ENGINES, or the first there is.
 
     A question has `algorithm` and `key`, the whole DER of an AlgorithmIdentifier and of a subjectPublicKeyInfo, `message`, and `signature`, the
-    octets of the signature; more that it has is not looked at. Raises JudgeMissing, and TypeError if one of these is not octets.
+    octets of the signature; more that it has is not looked at. Raises JudgeMissing, and JudgeFailed or MemoryError if the library fails at
+    what is served: then nothing is said of any signature. Raises TypeError if one of the four is not octets.
     """
     if not isinstance(policy, Policy):
         raise TypeError(f"a policy is wanted and not {policy!r}")

@@ -18,6 +18,7 @@ fn text(octets: &[u8]) -> (&[u8], &[u8]) {
 fn lax() -> OpenSslJudge {
     let mut policy = Policy {
         minimum_rsa_bits: 512,
+        maximum_rsa_bits: 16_384,
         ..Policy::default()
     };
     policy.digests.insert(Digest::Sha1);

@@ -2,16 +2,17 @@
 
 use x509check::{Judge, Judgement, SignatureQuestion};
 
-use crate::der::{value, NotServed, SEQUENCE};
+use crate::der::{not_served, value, NotServed, Served, SEQUENCE};
 use crate::keys::{Key, Kind};
 use crate::policy::{Curve, Digest, Policy};
 use crate::schemes::{Pss, Scheme};
-use crate::verification::verify;
+use crate::verification::{verify, Verification};
 
 /// A judge of signatures by libcrypto, under a policy. It keeps nothing, and any number of threads may ask it.
 ///
 /// What can be read comes first, then what the policy lets, and only then what is right. So a signature with SHA-1 is refused by the
-/// default policy whether it is right or not. If libcrypto fails, as for lack of memory, it is not served.
+/// default policy whether it is right or not. If libcrypto then fails, as for lack of memory, the judge cannot tell
+/// ([`Judgement::CouldNotTell`]): what is served is decided here, and libcrypto only says of a point that it is not on its curve.
 #[derive(Clone, Debug, Default, PartialEq, Eq)]
 pub struct OpenSslJudge {
     policy: Policy,
@@ -43,24 +44,36 @@ impl OpenSslJudge {
         }
     }
 
-    fn looked_at(&self, question: &SignatureQuestion<'_>) -> Result<Opinion, NotServed> {
+    fn looked_at(&self, question: &SignatureQuestion<'_>) -> Served<Opinion> {
         let told = |judgement, why| Ok(Opinion { judgement, why });
         let (scheme, key) = (
             Scheme::read(question.algorithm)?,
             Key::read(question.key_info)?,
         );
+        self.check_length(&key)?;
         if let Some(why) = self.policy.refusal(&scheme, &key) {
             return told(Judgement::RefusedByPolicy, why);
         }
         if let Some(why) = wrong_by_itself(&scheme, &key, question.signature) {
             return told(Judgement::Wrong, why.into());
         }
-        match verify(&scheme, &key, question.message, question.signature)? {
-            true => told(Judgement::Good, String::new()),
-            false => told(
+        match verify(&scheme, &key, question.message, question.signature) {
+            Verification::Good => told(Judgement::Good, String::new()),
+            Verification::Wrong => told(
                 Judgement::Wrong,
                 "the key did not make it of this message".into(),
             ),
+            Verification::NotOnCurve => not_served("the key: no point on its curve"),
+            Verification::Failed(why) => told(Judgement::CouldNotTell, why.into()),
+        }
+    }
+
+    fn check_length(&self, key: &Key<'_>) -> Served<()> {
+        match key.kind {
+            Kind::Rsa if key.bits > self.policy.maximum_rsa_bits => {
+                not_served(&format!("the key: a modulus of {} bits", key.bits))
+            }
+            _ => Ok(()),
         }
     }
 }

@@ -22,7 +22,7 @@ pub(crate) enum Kind {
 #[derive(Clone, Copy, Debug)]
 pub(crate) struct Key<'a> {
     pub kind: Kind,
-    /// The whole subjectPublicKeyInfo; of RSA the RSAPublicKey in it (RFC 8017, A.1.1).
+    /// The octets of subjectPublicKey: an RSAPublicKey (RFC 8017, A.1.1), a point, or the key of EdDSA as it is.
     pub octets: &'a [u8],
     /// Of the modulus of an RSA key.
     pub bits: usize,
@@ -62,11 +62,11 @@ fn key_of(info: &[u8]) -> Served<Key<'_>> {
         });
     }
     if contents == EC {
-        return ec_key(octets, parameters, info);
+        return ec_key(octets, parameters);
     }
     match bare_scheme(contents) {
         Some(Scheme::EdDsa(curve)) => {
-            want_none(parameters).and_then(|()| edwards_key(curve, octets, info))
+            want_none(parameters).and_then(|()| edwards_key(curve, octets))
         }
         _ => not_served("keys of this kind are not served"),
     }
@@ -116,10 +116,10 @@ fn curve_of(contents: &[u8]) -> Option<(Curve, usize)> {
     }
 }
 
-fn on_curve<'a>(curve: Curve, info: &'a [u8]) -> Key<'a> {
+fn on_curve(curve: Curve, octets: &[u8]) -> Key<'_> {
     Key {
         kind: Kind::Curve(curve),
-        octets: info,
+        octets,
         bits: 0,
         is_only_pss: false,
         least: None,
@@ -127,7 +127,7 @@ fn on_curve<'a>(curve: Curve, info: &'a [u8]) -> Key<'a> {
 }
 
 /// A point, whole or compressed, on a curve with a name (RFC 5480, 2.1.1 and 2.2).
-fn ec_key<'a>(point: &[u8], parameters: Option<Value<'_>>, info: &'a [u8]) -> Served<Key<'a>> {
+fn ec_key<'a>(point: &'a [u8], parameters: Option<Value<'_>>) -> Served<Key<'a>> {
     let named = match parameters {
         Some(value) if value.identifier == OBJECT_IDENTIFIER => curve_of(value.contents),
         _ => return not_served("a curve that has no name"),
@@ -143,13 +143,13 @@ fn ec_key<'a>(point: &[u8], parameters: Option<Value<'_>>, info: &'a [u8]) -> Se
     if point.len() != length {
         return not_served("no point on its curve");
     }
-    Ok(on_curve(curve, info))
+    Ok(on_curve(curve, point))
 }
 
-fn edwards_key<'a>(curve: Curve, octets: &[u8], info: &'a [u8]) -> Served<Key<'a>> {
+fn edwards_key(curve: Curve, octets: &[u8]) -> Served<Key<'_>> {
     let length = if curve == Curve::Ed25519 { 32 } else { 57 };
     if octets.len() != length {
         return not_served("no key on its curve");
     }
-    Ok(on_curve(curve, info))
+    Ok(on_curve(curve, octets))
 }

@@ -25,9 +25,9 @@
 //! # }
 //! ```
 //!
-//! Served are RSA (PKCS #1 v1.5, and RSASSA-PSS with all parameters of RFC 4055) with moduli of 512 to 16384 bits, ECDSA on named curves,
-//! both with SHA-1 and SHA-2, Ed25519 and Ed448. What is served and what the [`Policy`] lets is decided here; libcrypto is asked about
-//! the signature alone.
+//! Served are RSA (PKCS #1 v1.5, and RSASSA-PSS with all parameters of RFC 4055) with moduli of 512 to 8192 bits, or to 16384 if the
+//! [`Policy`] says so, ECDSA on named curves, both with SHA-1 and SHA-2, Ed25519 and Ed448. What is served and what the policy lets is
+//! decided here; libcrypto is asked about the signature alone. If it fails, the call that asked ends with an error.
 #![deny(missing_docs)]
 
 mod der;

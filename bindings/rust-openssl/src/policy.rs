@@ -83,8 +83,10 @@ const CURVES: [Curve; 10] = [
 pub struct Policy {
     /// Of RSA and ECDSA: of the message, and of RSASSA-PSS also that of the mask generation function. All but SHA-1, if it is not said.
     pub digests: BTreeSet<Digest>,
-    /// Of the modulus: 2048, if it is not said. Moduli of less than 512 bits or more than 16384 are not served.
+    /// Of the modulus: 2048, if it is not said. Moduli of less than 512 bits are not served.
     pub minimum_rsa_bits: usize,
+    /// Of the modulus: 8192, if it is not said. A longer one is not served, as it takes long; 16384 is the most that can be said.
+    pub maximum_rsa_bits: usize,
     /// Of ECDSA and EdDSA: all, if it is not said.
     pub curves: BTreeSet<Curve>,
 }
@@ -97,6 +99,7 @@ impl Default for Policy {
                 .filter(|it| *it != Digest::Sha1)
                 .collect(),
             minimum_rsa_bits: 2048,
+            maximum_rsa_bits: 8192,
             curves: CURVES.into(),
         }
     }

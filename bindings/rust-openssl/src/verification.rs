@@ -3,17 +3,19 @@
 use std::os::raw::{c_int, c_ulong};
 
 use foreign_types::{ForeignType, ForeignTypeRef};
+use openssl::bn::BigNumContext;
+use openssl::ec::{EcGroup, EcKey, EcPoint};
 use openssl::error::ErrorStack;
 use openssl::md::{Md, MdRef};
 use openssl::md_ctx::MdCtx;
-use openssl::pkey::{PKey, Public};
+use openssl::nid::Nid;
+use openssl::pkey::{Id, PKey, Public};
 use openssl::pkey_ctx::PkeyCtxRef;
 use openssl::rsa::{Padding, Rsa};
 use openssl::version;
 
-use crate::der::{not_served, Served};
 use crate::keys::{Key, Kind};
-use crate::policy::Digest;
+use crate::policy::{Curve, Digest};
 use crate::schemes::{Pss, Scheme};
 
 /// 3.0.0
@@ -27,12 +29,25 @@ const REASON: c_ulong = 0x007F_FFFF;
 const RSA: c_ulong = 4;
 const EC: c_ulong = 16;
 const BAD_SIGNATURE: c_ulong = 156;
+/// EC_R_INVALID_ENCODING, EC_R_POINT_IS_NOT_ON_CURVE, EC_R_INVALID_COMPRESSION_BIT and EC_R_INVALID_COMPRESSED_POINT (ecerr.h).
+const NOT_ON_CURVE: [c_ulong; 4] = [102, 107, 109, 110];
 /// EVP_MD_CTX_FLAG_FINALISE (evp.h): nothing comes behind this message, so the context is not copied before it is used up. A copy that
 /// fails for lack of memory looks like a wrong signature.
 const FINALISE: c_int = 0x0200;
 
 extern "C" {
     fn EVP_MD_CTX_set_flags(context: *mut openssl_sys::EVP_MD_CTX, flags: c_int);
+}
+
+/// What libcrypto says of a signature by a scheme and a key that are served.
+#[derive(Clone, Copy, Debug, PartialEq, Eq)]
+pub(crate) enum Verification {
+    Good,
+    Wrong,
+    /// The key is none.
+    NotOnCurve,
+    /// It says nothing, and why.
+    Failed(&'static str),
 }
 
 fn md(digest: Digest) -> &'static MdRef {
@@ -45,11 +60,41 @@ fn md(digest: Digest) -> &'static MdRef {
     }
 }
 
+/// The name of a curve of ECDSA.
+fn nid(curve: Curve) -> Nid {
+    match curve {
+        Curve::P224 => Nid::SECP224R1,
+        Curve::P256 => Nid::X9_62_PRIME256V1,
+        Curve::P384 => Nid::SECP384R1,
+        Curve::P521 => Nid::SECP521R1,
+        Curve::Secp256k1 => Nid::SECP256K1,
+        Curve::BrainpoolP256r1 => Nid::BRAINPOOL_P256R1,
+        Curve::BrainpoolP384r1 => Nid::BRAINPOOL_P384R1,
+        Curve::BrainpoolP512r1 => Nid::BRAINPOOL_P512R1,
+        Curve::Ed25519 | Curve::Ed448 => Nid::UNDEF,
+    }
+}
+
+fn ec_key(curve: Curve, point: &[u8]) -> Result<PKey<Public>, ErrorStack> {
+    let (group, mut room) = (EcGroup::from_curve_name(nid(curve))?, BigNumContext::new()?);
+    let point = EcPoint::from_bytes(&group, point, &mut room)?;
+    PKey::from_ec_key(EcKey::from_public_key(&group, &point)?)
+}
+
 fn public_key(key: &Key<'_>) -> Result<PKey<Public>, ErrorStack> {
     match key.kind {
         Kind::Rsa => PKey::from_rsa(Rsa::public_key_from_der_pkcs1(key.octets)?),
-        Kind::Curve(_) => PKey::public_key_from_der(key.octets),
+        Kind::Curve(Curve::Ed25519) => PKey::public_key_from_raw_bytes(key.octets, Id::ED25519),
+        Kind::Curve(Curve::Ed448) => PKey::public_key_from_raw_bytes(key.octets, Id::ED448),
+        Kind::Curve(curve) => ec_key(curve, key.octets),
     }
+}
+
+/// Whether all that the library says is that a point is not on its curve.
+fn is_not_on_curve(errors: &ErrorStack) -> bool {
+    let says_so = |code: c_ulong| library_of(code) == EC && NOT_ON_CURVE.contains(&(code & REASON));
+    let mut codes = errors.errors().iter().map(|error| error.code());
+    codes.len() > 0 && codes.all(says_so)
 }
 
 fn set_pss(context: &mut PkeyCtxRef<Public>, pss: &Pss) -> Result<(), ErrorStack> {
@@ -102,40 +147,45 @@ fn library_of(code: c_ulong) -> c_ulong {
 }
 
 /// Whether the key made the signature of the message, by the scheme. What can be said without the library was said before.
+///
+/// The library does not report each lack of memory: what speaks against a signature is looked at once more, from the beginning.
 pub(crate) fn verify(
     scheme: &Scheme,
     key: &Key<'_>,
     message: &[u8],
     signature: &[u8],
-) -> Served<bool> {
+) -> Verification {
     if version::number() < OLDEST {
-        return not_served("libcrypto is older than 3.0");
+        return Verification::Failed("libcrypto is older than 3.0");
     }
-    let is_good = verify_once(scheme, key, message, signature)?;
-    if !is_good && matches!(scheme, Scheme::EdDsa(_)) {
-        // Its routines are silent, too, if they lack memory. Where it lacks, a second look from the beginning finds that out.
-        return verify_once(scheme, key, message, signature);
+    match verify_once(scheme, key, message, signature) {
+        Verification::Wrong | Verification::NotOnCurve => {
+            verify_once(scheme, key, message, signature)
+        }
+        other => other,
     }
-    Ok(is_good)
 }
 
-fn verify_once(scheme: &Scheme, key: &Key<'_>, message: &[u8], signature: &[u8]) -> Served<bool> {
+fn verify_once(scheme: &Scheme, key: &Key<'_>, message: &[u8], signature: &[u8]) -> Verification {
     // (what others left in the queue is not about this signature)
     drop(ErrorStack::get());
-    let Ok(public) = public_key(key) else {
-        return not_served("the key: OpenSSL does not take it");
+    let public = match public_key(key) {
+        Ok(public) => public,
+        Err(errors) if is_not_on_curve(&errors) => return Verification::NotOnCurve,
+        Err(_) => return Verification::Failed("OpenSSL does not take the key"),
     };
     let Ok(mut context) = MdCtx::new() else {
-        return not_served("OpenSSL fails");
+        return Verification::Failed("OpenSSL fails");
     };
     if begin(&mut context, scheme, &public).is_err() {
-        return not_served("the algorithm: OpenSSL does not take it");
+        return Verification::Failed("OpenSSL does not take the algorithm");
     }
     // The context lives until the end of this function.
     unsafe { EVP_MD_CTX_set_flags(context.as_ptr(), FINALISE) };
     match context.digest_verify(message, signature) {
-        Ok(is_good) => Ok(is_good),
-        Err(errors) if is_failure(key.kind, &errors) => not_served("OpenSSL fails"),
-        Err(_) => Ok(false),
+        Ok(true) => Verification::Good,
+        Ok(false) => Verification::Wrong,
+        Err(errors) if is_failure(key.kind, &errors) => Verification::Failed("OpenSSL fails"),
+        Err(_) => Verification::Wrong,
     }
 }

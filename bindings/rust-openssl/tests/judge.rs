@@ -2,9 +2,11 @@
 
 mod support;
 
+use openssl::bn::BigNum;
 use openssl::hash::MessageDigest;
 use openssl::nid::Nid;
 use openssl::pkey::PKey;
+use openssl::rsa::Rsa;
 use support::{by_curve, by_edwards, by_pss, by_rsa, identifier, rsa, Signed, NULL};
 use x509check::{Judgement, SignatureQuestion};
 use x509check_openssl::{Curve, Digest, OpenSslJudge, Policy};
@@ -141,8 +143,66 @@ fn what_is_not_served() {
     not_served(&|it| it.algorithm = identifier("1.2.840.113549.1.1.10", &[]));
     not_served(&|it| it.key.clear());
     not_served(&|it| it.key.truncate(40));
-    // A point that is not on the curve.
+    // A point that is not on the curve, and the first numbers that are those of none.
     not_served(&|it| *it.key.last_mut().unwrap() ^= 1);
+    let point = good.key.len() - 65;
+    let compressed = |x: u8| {
+        let mut signed = good.clone();
+        signed.key.truncate(point);
+        signed.key.extend([&[2][..], &[0; 31], &[x]].concat());
+        // (what stands around the point is 32 octets shorter)
+        signed.key[1] -= 32;
+        signed.key[point - 2] -= 32;
+        signed.judged(&judge)
+    };
+    let judged: Vec<Judgement> = (0..8).map(compressed).collect();
+    let (on_curve, others): (Vec<Judgement>, Vec<Judgement>) =
+        judged.into_iter().partition(|it| *it == Judgement::Wrong);
+    assert!(on_curve.len() > 1 && others.len() > 1);
+    assert!(others.iter().all(|it| *it == Judgement::NotServed));
+}
+
+/// A modulus of so many bits, all of them set. It has no prime factors that anybody knows, and made no signature.
+fn by_long_key(bits: usize) -> Signed {
+    let modulus = [&[0][..], &vec![0xFF; bits / 8]].concat();
+    let modulus = BigNum::from_slice(&modulus).unwrap();
+    let exponent = BigNum::from_u32(65_537).unwrap();
+    let key = Rsa::from_public_components(modulus, exponent).unwrap();
+    Signed {
+        algorithm: identifier(SHA256_RSA, &[NULL]),
+        key: key.public_key_to_der().unwrap(),
+        message: b"a message".to_vec(),
+        signature: vec![1; bits / 8],
+    }
+}
+
+#[test]
+fn long_keys_are_served_if_a_policy_says_so() {
+    let most = OpenSslJudge::new(Policy {
+        maximum_rsa_bits: 16_384,
+        ..Policy::default()
+    });
+    let little = OpenSslJudge::new(Policy {
+        maximum_rsa_bits: 4_096,
+        ..Policy::default()
+    });
+    let beyond = OpenSslJudge::new(Policy {
+        maximum_rsa_bits: usize::MAX,
+        ..Policy::default()
+    });
+    use Judgement::{NotServed, Wrong};
+    for (bits, expected) in [
+        (4_096, [Wrong, Wrong, Wrong, Wrong]),
+        (4_104, [NotServed, Wrong, Wrong, Wrong]),
+        (8_192, [NotServed, Wrong, Wrong, Wrong]),
+        (8_200, [NotServed, NotServed, Wrong, Wrong]),
+        (16_384, [NotServed, NotServed, Wrong, Wrong]),
+        (16_392, [NotServed, NotServed, NotServed, NotServed]),
+    ] {
+        let signed = by_long_key(bits);
+        let judges = [&little, &OpenSslJudge::default(), &most, &beyond];
+        assert_eq!(judges.map(|judge| signed.judged(judge)), expected, "{bits}");
+    }
 }
 
 #[test]

@@ -1,13 +1,11 @@
-//! libcrypto is refused memory, one allocation after the other: a good signature is then never wrong.
+//! libcrypto is refused memory, one allocation after the other: then the judge cannot tell, and a good signature is never wrong or not
+//! served.
 //!
 //! There is one test in this file, as the library takes another allocator only before it has allocated anything.
 
+#[path = "support/rationed.rs"]
+mod rationed;
 mod support;
-
-use std::ffi::c_void;
-use std::os::raw::{c_char, c_int};
-use std::ptr;
-use std::sync::atomic::{AtomicIsize, Ordering};
 
 use openssl::hash::MessageDigest;
 use openssl::nid::Nid;
@@ -15,53 +13,6 @@ use openssl::pkey::PKey;
 use support::{by_curve, by_edwards, by_pss, by_rsa, rsa, Signed};
 use x509check::Judgement;
 use x509check_openssl::OpenSslJudge;
-
-/// How many allocations are granted yet; all, if it is negative.
-static GRANTED: AtomicIsize = AtomicIsize::new(-1);
-
-type Malloc = extern "C" fn(usize, *const c_char, c_int) -> *mut c_void;
-type Realloc = extern "C" fn(*mut c_void, usize, *const c_char, c_int) -> *mut c_void;
-type Free = extern "C" fn(*mut c_void, *const c_char, c_int);
-
-extern "C" {
-    fn CRYPTO_set_mem_functions(malloc: Malloc, realloc: Realloc, free: Free) -> c_int;
-    fn malloc(size: usize) -> *mut c_void;
-    fn realloc(at: *mut c_void, size: usize) -> *mut c_void;
-    fn free(at: *mut c_void);
-}
-
-/// Whether this allocation is granted: so many are, one is not, and those behind it are again.
-fn is_granted() -> bool {
-    GRANTED.load(Ordering::Relaxed) < 0 || GRANTED.fetch_sub(1, Ordering::Relaxed) != 0
-}
-
-extern "C" fn rationed_malloc(size: usize, _: *const c_char, _: c_int) -> *mut c_void {
-    if is_granted() {
-        // Any size may be asked for.
-        unsafe { malloc(size) }
-    } else {
-        ptr::null_mut()
-    }
-}
-
-extern "C" fn rationed_realloc(
-    at: *mut c_void,
-    size: usize,
-    _: *const c_char,
-    _: c_int,
-) -> *mut c_void {
-    if is_granted() {
-        // What libcrypto hands back came from `malloc` or `realloc`.
-        unsafe { realloc(at, size) }
-    } else {
-        ptr::null_mut()
-    }
-}
-
-extern "C" fn rationed_free(at: *mut c_void, _: *const c_char, _: c_int) {
-    // As above.
-    unsafe { free(at) }
-}
 
 /// What is judged, and of how many allocations one is refused: most curves take thousands.
 fn questions() -> Vec<(&'static str, Signed, usize)> {
@@ -86,13 +37,11 @@ fn refused(name: &str, signed: &Signed, each: usize) -> usize {
     assert_eq!(signed.judged(&judge), Judgement::Good, "{name}");
     let mut refused = 0;
     for granted in (0..).step_by(each) {
-        GRANTED.store(granted, Ordering::Relaxed);
-        let judgement = signed.judged(&judge);
-        let left = GRANTED.swap(-1, Ordering::Relaxed);
-        let is_known = matches!(judgement, Judgement::Good | Judgement::NotServed);
+        let (judgement, is_short) = rationed::refused_behind(granted, || signed.judged(&judge));
+        let is_known = matches!(judgement, Judgement::Good | Judgement::CouldNotTell);
         assert!(is_known, "{name}: {judgement} behind {granted} allocations");
-        refused += usize::from(judgement == Judgement::NotServed);
-        if left >= 0 {
+        refused += usize::from(judgement == Judgement::CouldNotTell);
+        if !is_short {
             assert_eq!(judgement, Judgement::Good, "{name}");
             break;
         }
@@ -102,10 +51,7 @@ fn refused(name: &str, signed: &Signed, each: usize) -> usize {
 
 #[test]
 fn a_good_signature_is_never_wrong() {
-    // The functions have the forms that libcrypto wants, and nothing of it was called before.
-    let taken =
-        unsafe { CRYPTO_set_mem_functions(rationed_malloc, rationed_realloc, rationed_free) };
-    assert_eq!(taken, 1);
+    rationed::take();
     for (name, signed, each) in questions() {
         let refused = refused(name, &signed, each);
         assert!(

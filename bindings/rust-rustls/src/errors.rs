@@ -20,6 +20,16 @@ pub(crate) fn of_stapled(error: &x509check::Error) -> Error {
     Error::InvalidCertificateData(format!("the stapled response cannot be read: {error}"))
 }
 
+/// The error for a stapled response that may be the issuer's and whose signature nobody could judge, or that contradicts what is held.
+pub(crate) fn of_doubt(error: &PartyError) -> Error {
+    Error::InvalidCertificateData(format!("the stapled response: {error}"))
+}
+
+/// The error for more certificates than a peer may send.
+pub(crate) fn of_count(sent: usize, most: usize) -> Error {
+    Error::InvalidCertificateData(format!("{sent} certificates were sent, more than {most}"))
+}
+
 pub(crate) fn of_search(error: &SearchError) -> Error {
     match error {
         SearchError::NoTarget => Error::NoCertificatesPresented,

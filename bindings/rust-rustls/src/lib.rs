@@ -12,18 +12,22 @@
 //! # let (root, root_list, middle_list) = (read("root.der")?, read("root.crl")?, read("middle.crl")?);
 //! use std::sync::Arc;
 //! use x509check_openssl::OpenSslJudge;
-//! use x509check_rustls::PeerVerifier;
+//! use x509check_rustls::{client_config, PeerVerifier};
 //!
 //! let verifier = Arc::new(PeerVerifier::new(vec![root], OpenSslJudge::default())?);
 //! verifier.set_statements(vec![root_list, middle_list])?; // again whenever a newer list has come
-//! let config = rustls::ClientConfig::builder()
-//!     .with_safe_defaults()
-//!     .with_custom_certificate_verifier(verifier)
-//!     .with_no_client_auth();
+//! let config = client_config(verifier); // each connection shows its server's certificate
 //! # let _ = config;
 //! # Ok(())
 //! # }
 //! ```
+//!
+//! # Resumption
+//!
+//! A verifier is asked only if a peer shows a certificate. If a session of an earlier connection is resumed, the peer shows none, and
+//! rustls asks nobody: a peer that was revoked since then is believed again. The configurations that rustls makes resume sessions, in TLS
+//! 1.2 and 1.3, of clients and of servers. Those of [`client_config`] and [`server_config`] do not; [`client_without_resumption`] and
+//! [`server_without_resumption`] change any other one so that it does not.
 //!
 //! # Alerts
 //!
@@ -33,10 +37,14 @@
 //! `handshake_failure`, whatever is wrong.
 #![deny(missing_docs)]
 
+mod config;
 mod errors;
 mod party;
 mod peers;
 mod verifier;
 
+pub use config::{
+    client_config, client_without_resumption, server_config, server_without_resumption,
+};
 pub use party::PartyVerifier;
 pub use verifier::PeerVerifier;

@@ -9,20 +9,22 @@ use rustls::server::{ClientCertVerified, ClientCertVerifier};
 use rustls::{DistinguishedNames, Error};
 use x509check::{sha256, Judge, Party, PartyError, PartySearch, Peer};
 
-use crate::errors::{of_party, of_stapled};
+use crate::errors::{of_doubt, of_party, of_stapled};
 use crate::peers::{
     read_anchors, read_statements, sent, subjects, verify_client, verify_server, Asked, Finds,
+    CERTIFICATES,
 };
 
 /// Believes the peers of TLS connections by what the store of a party holds, and by the judge's word on signatures. What is said of a
 /// [`PeerVerifier`](crate::PeerVerifier) holds here too.
 ///
-/// A stapled response that the issuer on the path signed is delivered to the store. A handshake waits for the party's answers, each as long
-/// as its limit lets it, and fails if one does not come.
+/// A stapled response that the issuer on the path signed is delivered to the store; if it contradicts what the store holds, the peer is not
+/// believed. A handshake waits for the party's answers, each as long as its limit lets it, and fails if one does not come.
 pub struct PartyVerifier<J> {
     anchors: Vec<Vec<u8>>,
     judge: J,
     party: Arc<Party>,
+    certificate_limit: usize,
 }
 
 impl<J> fmt::Debug for PartyVerifier<J> {
@@ -46,7 +48,17 @@ impl<J: Judge + Send + Sync> PartyVerifier<J> {
             anchors,
             judge,
             party,
+            certificate_limit: CERTIFICATES,
         })
+    }
+
+    /// The verifier for peers that may send so many certificates, their own with them: 16, if it has not been set.
+    #[must_use]
+    pub fn with_certificate_limit(self, certificate_limit: usize) -> PartyVerifier<J> {
+        PartyVerifier {
+            certificate_limit,
+            ..self
+        }
     }
 }
 
@@ -54,12 +66,12 @@ impl<J: Judge> PartyVerifier<J> {
     /// Whether the store took the stapled response, as one that the issuer or its delegate signed.
     fn takes(&self, issuer: &[u8], stapled: &[u8]) -> Result<bool, Error> {
         match self.party.deliver(issuer, stapled, &self.judge) {
-            Ok(delivery) if delivery.contradicted == 0 => Ok(true),
-            Ok(delivery) => Err(Error::InvalidCertificateData(format!(
-                "the stapled response: {delivery}"
-            ))),
+            Ok(_) => Ok(true),
             // (it was read before, so that it is only another's)
             Err(PartyError::Refused { status: 4, .. }) => Ok(false),
+            Err(error @ (PartyError::Unjudged { .. } | PartyError::Contradicted(_))) => {
+                Err(of_doubt(&error))
+            }
             Err(error) => Err(of_party(&error)),
         }
     }
@@ -73,6 +85,10 @@ impl<J: Judge> PartyVerifier<J> {
 }
 
 impl<J: Judge> Finds for PartyVerifier<J> {
+    fn certificate_limit(&self) -> usize {
+        self.certificate_limit
+    }
+
     /// What the party finds, and once more if it took the response about the path that was found first.
     fn find(&self, asked: &Asked<'_>) -> Result<Peer, Error> {
         let anchors: Vec<&[u8]> = self.anchors.iter().map(|it| &it[..]).collect();

@@ -7,7 +7,10 @@ use rustls::server::ClientCertVerified;
 use rustls::{DistinguishedNames, Error, OwnedTrustAnchor, RootCertStore};
 use x509check::{Certificate, Peer, Profile, Query, Reference};
 
-use crate::errors::of_not_believed;
+use crate::errors::{of_count, of_not_believed};
+
+/// So many certificates a peer may send, if it is not said.
+pub(crate) const CERTIFICATES: usize = 16;
 
 /// id-kp-serverAuth and id-kp-clientAuth (RFC 5280, 4.2.1.12).
 const SERVER_AUTH: &[u8] = &[0x2B, 6, 1, 5, 5, 7, 3, 1];
@@ -25,6 +28,9 @@ pub(crate) struct Asked<'a> {
 
 /// Whoever finds paths to peers.
 pub(crate) trait Finds {
+    /// How many certificates a peer may send.
+    fn certificate_limit(&self) -> usize;
+
     fn find(&self, asked: &Asked<'_>) -> Result<Peer, Error>;
 }
 
@@ -48,7 +54,7 @@ pub(crate) fn verify_server(
         name: Some(name),
         stapled: (!stapled.is_empty()).then_some(stapled),
     };
-    believe(finder.find(&asked)?).map(|()| ServerCertVerified::assertion())
+    believe(finder, &asked).map(|()| ServerCertVerified::assertion())
 }
 
 /// A client. Whom it is believed to be, its certificate says.
@@ -64,12 +70,16 @@ pub(crate) fn verify_client(
         name: None,
         stapled: None,
     };
-    believe(finder.find(&asked)?).map(|()| ClientCertVerified::assertion())
+    believe(finder, &asked).map(|()| ClientCertVerified::assertion())
 }
 
 /// Only a valid path, to a certificate whose name is right.
-fn believe(peer: Peer) -> Result<(), Error> {
-    match peer.require_valid() {
+fn believe(finder: &impl Finds, asked: &Asked<'_>) -> Result<(), Error> {
+    let (sent, most) = (asked.certificates.len(), finder.certificate_limit());
+    if sent > most {
+        return Err(of_count(sent, most));
+    }
+    match finder.find(asked)?.require_valid() {
         Ok(_) => Ok(()),
         Err(not_believed) => Err(of_not_believed(&not_believed)),
     }

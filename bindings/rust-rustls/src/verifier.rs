@@ -12,20 +12,28 @@ use x509check::{Judge, Limits, Peer, Profile, Search};
 use crate::errors::of_search;
 use crate::peers::{
     read_anchors, read_statements, sent, subjects, verify_client, verify_server, Asked, Finds,
+    CERTIFICATES,
 };
 
 /// Believes the peers of TLS connections by revocation lists and OCSP responses at hand, and by the judge's word on signatures (RFC 5280,
 /// 6; RFC 6960, 3.2; RFC 9525, 6). Any number of connections may use it at once.
 ///
 /// It takes what the peer sent in any order, and of a server the stapled response too. A certificate that is sent and cannot be read is an
-/// error, also one that no path needs; so is a stapled response that cannot be read. One that no issuer of the path signed changes nothing.
+/// error, also one that no path needs; so are more than 16 certificates, and a stapled response that cannot be read. One that no issuer of
+/// the path signed changes nothing. Nobody is believed if the judge fails, if a statement may be by an issuer of the path and the judge does
+/// not serve or refuses its signature, or if two contradict each other and one of them revokes.
+///
 /// Signed certificate timestamps are not asked for. A server that has it as its verifier of clients ends each connection whose client
 /// has no certificate that is believed.
+///
+/// It is asked only by a handshake in which the peer shows its certificate: take it by [`client_config`](crate::client_config) or
+/// [`server_config`](crate::server_config), in which each one does.
 pub struct PeerVerifier<J> {
     anchors: Vec<Vec<u8>>,
     judge: J,
     statements: RwLock<Arc<Vec<Vec<u8>>>>,
     limits: Limits,
+    certificate_limit: usize,
 }
 
 impl<J> fmt::Debug for PeerVerifier<J> {
@@ -49,6 +57,7 @@ impl<J: Judge + Send + Sync> PeerVerifier<J> {
             judge,
             statements: RwLock::default(),
             limits: Limits::default(),
+            certificate_limit: CERTIFICATES,
         })
     }
 
@@ -56,6 +65,15 @@ impl<J: Judge + Send + Sync> PeerVerifier<J> {
     #[must_use]
     pub fn with_limits(self, limits: Limits) -> PeerVerifier<J> {
         PeerVerifier { limits, ..self }
+    }
+
+    /// The verifier for peers that may send so many certificates, their own with them: 16, if it has not been set.
+    #[must_use]
+    pub fn with_certificate_limit(self, certificate_limit: usize) -> PeerVerifier<J> {
+        PeerVerifier {
+            certificate_limit,
+            ..self
+        }
     }
 
     /// From now on handshakes are decided by these lists and responses, each in DER, and no others. If one cannot be read, its fault is
@@ -74,6 +92,10 @@ impl<J: Judge + Send + Sync> PeerVerifier<J> {
 }
 
 impl<J: Judge> Finds for PeerVerifier<J> {
+    fn certificate_limit(&self) -> usize {
+        self.certificate_limit
+    }
+
     fn find(&self, asked: &Asked<'_>) -> Result<Peer, Error> {
         let held = Arc::clone(
             &self

@@ -380,6 +380,135 @@ fn certificates_of_clients() {
     );
 }
 
+#[test]
+fn certificates_whose_key_is_there_for_something_else() {
+    let authority = Authority::new();
+    authority.issue("www", "middle", "only_signs", "");
+    let lists = vec![authority.list("root"), authority.list("middle")];
+    let named = [("root", lists[0].clone()), ("middle", lists[1].clone())];
+    let served = serves(&["www", "middle"], WWW);
+    let sides = shake(&authority, &verifier(&authority, lists), &served);
+    assert_not_believed(&sides, "not found; target serial ");
+    let sides = shake(&authority, &party_verifier(&authority, &named), &served);
+    assert_not_believed(&sides, "not found; target serial ");
+}
+
+/// The newest list is signed by SHA-1, which the judge's policy refuses, beside one that is good; and then it contradicts that.
+#[test]
+fn lists_that_nobody_judges_and_lists_that_contradict_each_other() {
+    let authority = Authority::new();
+    authority.issue("www", "middle", "server", "");
+    let [root, older] = ["root", "middle"].map(|issuer| authority.list(issuer));
+    authority.revoke("www", "middle");
+    authority.repeat_number("middle");
+    let contradicting = authority.list("middle");
+    let refused = authority.list_by("middle", "sha1");
+    let served = serves(&["www", "middle"], WWW);
+    let verifier = verifier(&authority, vec![root.clone(), older.clone()]);
+    assert_good(&shake(&authority, &verifier, &served));
+    for (list, end) in [
+        (
+            refused,
+            "statements[2]: nobody could judge its signature (refused by policy), and it may revoke",
+        ),
+        (
+            contradicting,
+            "statements[2]: it revokes, and contradicts another one of its issuer",
+        ),
+    ] {
+        let lists = vec![root.clone(), older.clone(), list];
+        verifier.set_statements(lists).unwrap();
+        for (at_client, at_server) in shake(&authority, &verifier, &served) {
+            assert_eq!(at_client, Err(Error::General(end.into())));
+            let alert = Error::AlertReceived(AlertDescription::BadCertificate);
+            assert_eq!(at_server, Err(alert));
+        }
+    }
+}
+
+/// The store of a party holds what is good; a response by SHA-1, and one of the same second, say that the server is revoked.
+#[test]
+fn stapled_responses_that_a_party_cannot_take() {
+    let authority = Authority::new();
+    let [good, contradicting, refused] = responses_of_one_second(&authority);
+    let verifier = party_verifier(&authority, &[("root", authority.list("root"))]);
+    assert_good(&shake(&authority, &verifier, &staples(&good)));
+    for (stapled, begin) in [
+        (refused, "the stapled response: statement: refused 57 NoSigner; signature refused by policy"),
+        (contradicting, "the stapled response: contradicts what the store holds: stored 0 kept 0 contradicted 1"),
+    ] {
+        assert_not_believed(&shake(&authority, &verifier, &staples(&stapled)), begin);
+    }
+}
+
+/// Responses that `www` is good, that it is revoked, in the same second, and that it is revoked, by SHA-1.
+fn responses_of_one_second(authority: &Authority) -> [Vec<u8>; 3] {
+    for name in ["www1", "www2", "www3", "www4", "www5"] {
+        authority.certify("www", "www", name, "middle", "server", "");
+        let good = authority.response("www", "middle");
+        authority.revoke("www", "middle");
+        let contradicting = authority.response("www", "middle");
+        // producedAt is the first time in a response.
+        let produced = |octets: &[u8]| {
+            let at = octets
+                .windows(2)
+                .position(|head| head == [0x18, 15])
+                .unwrap();
+            octets[at..at + 17].to_vec()
+        };
+        if produced(&good) == produced(&contradicting) {
+            let refused = authority.response_by("www", "middle", "sha1");
+            return [good, contradicting, refused];
+        }
+    }
+    panic!("each time a second ended between two responses");
+}
+
+/// Nobody reads them or is asked about them.
+#[test]
+fn more_certificates_than_a_peer_may_send() {
+    let authority = Authority::new();
+    authority.issue("www", "middle", "server", "");
+    let lists = vec![authority.list("root"), authority.list("middle")];
+    let counting = Counting::default();
+    let anchors = vec![authority.certificate("root")];
+    let refusing = Arc::new(PeerVerifier::new(anchors.clone(), counting.clone()).unwrap());
+    let chain = [&["www", "middle"][..], &["middle"; 15]].concat();
+    let sides = shake(&authority, &refusing, &serves(&chain, WWW));
+    assert_not_believed(&sides, "17 certificates were sent, more than 16");
+    assert_eq!(counting.0.load(Ordering::Relaxed), 0);
+    let sides = shake(
+        &authority,
+        &party_verifier(&authority, &[]),
+        &serves(&chain, WWW),
+    );
+    assert_not_believed(&sides, "17 certificates were sent, more than 16");
+    let verifier = PeerVerifier::new(anchors, OpenSslJudge::default()).unwrap();
+    verifier.set_statements(lists).unwrap();
+    let verifier = Arc::new(verifier);
+    assert_good(&shake(&authority, &verifier, &serves(&chain[..16], WWW)));
+    let verifier = Arc::into_inner(verifier).unwrap();
+    let verifier = Arc::new(verifier.with_certificate_limit(17));
+    assert_good(&shake(&authority, &verifier, &serves(&chain, WWW)));
+}
+
+/// A judge that fails is not one that finds a signature wrong.
+#[test]
+fn judges_that_cannot_tell() {
+    let authority = Authority::new();
+    authority.issue("www", "middle", "server", "");
+    let anchors = vec![authority.certificate("root")];
+    let judge = |_: &SignatureQuestion<'_>| Judgement::CouldNotTell;
+    let verifier = Arc::new(PeerVerifier::new(anchors, judge).unwrap());
+    for (at_client, _) in shake(&authority, &verifier, &serves(&["www", "middle"], WWW)) {
+        let begin = "the judge could not tell whether the signature is good: ";
+        assert!(
+            matches!(&at_client, Err(Error::General(why)) if why.starts_with(begin)),
+            "{at_client:?}"
+        );
+    }
+}
+
 /// Counts how often it is asked, and finds nothing good.
 #[derive(Clone, Default)]
 struct Counting(Arc<AtomicUsize>);

@@ -4,7 +4,7 @@
 //! of each question: the fingerprint and the four lengths.
 
 use std::{env, fs, process};
-use x509check::{Fingerprints, Profile, Query};
+use x509check::{Error, Fingerprints, Profile, Query};
 
 /// What is left of a file.
 struct Left<'a>(&'a [u8]);
@@ -55,6 +55,8 @@ fn main() {
         };
         match query.answer(&Fingerprints(&prints)) {
             Ok(answer) => println!("{}", answer.verdict),
+            // The library says so, as the others that are compared: the first of statements that contradict each other counts.
+            Err(Error::Contradicted { .. }) => println!("valid"),
             Err(error) => println!("refused {error}"),
         }
         let Ok(questions) = query.signature_questions() else {

@@ -26,7 +26,9 @@ pub struct Answer {
     /// The policies at the end of the path. There are none if the path is invalid, and none unless they were asked for, by
     /// [`QueryWithPolicies`](crate::QueryWithPolicies).
     pub policies: Option<Policies>,
-    /// The statements that cannot be read and were left out, each with its fault: none unless the query was to be answered without them.
+    /// The statements that were left out, each with its fault: none unless the query was to be answered without them. Beside those that
+    /// cannot be read these are the ones that may be by an issuer of the path and that nobody could judge: a list with the fault 54
+    /// (BadSignature), a response with 57 (NoSigner). If the path is invalid, nobody looked at these.
     pub ignored: Vec<Fault>,
 }
 

@@ -3,6 +3,7 @@
 use std::error;
 use std::fmt;
 
+use crate::judge::Judgement;
 use crate::library::{x509check_fault_name, NAME_ROOM};
 
 /// The number of want of memory.
@@ -42,6 +43,25 @@ pub enum Error {
     Memory,
     /// The purpose is not the contents of an OBJECT IDENTIFIER; so are no octets. Whoever asks for no purpose says `None`.
     Purpose,
+    /// The judge could not tell whether a signature is good ([`Judgement::CouldNotTell`]).
+    CouldNotTell {
+        /// That of the signature.
+        fingerprint: [u8; 32],
+    },
+    /// The path is valid by the other statements, but nobody could judge the signature of this one, which may be by an issuer of the path: it
+    /// may be the one that revokes.
+    Unjudged {
+        /// Which of the statements, from 0 on.
+        statement: usize,
+        /// What the judge said of its signature, or of that of its delegate's certificate.
+        judgement: Judgement,
+    },
+    /// The path is valid by the order of the statements, of which the first with a number, or with a time, counts. But its issuer signed
+    /// another one with that number or time, which contradicts it and revokes a certificate of the path.
+    Contradicted {
+        /// Which of the statements, from 0 on: the first of that issuer that revokes the certificate by itself.
+        statement: usize,
+    },
     /// The library answered a number that this crate has no meaning for: what it is, and the number. The library is of another version.
     Unexpected(&'static str, usize),
 }
@@ -88,6 +108,23 @@ impl fmt::Display for Error {
             Error::Purpose => {
                 out.write_str("the purpose is not the contents of an object identifier")
             }
+            Error::CouldNotTell { fingerprint } => {
+                out.write_str("the judge could not tell whether the signature is good: ")?;
+                fingerprint
+                    .iter()
+                    .try_for_each(|octet| write!(out, "{octet:02x}"))
+            }
+            Error::Unjudged {
+                statement,
+                judgement,
+            } => write!(
+                out,
+                "statements[{statement}]: nobody could judge its signature ({judgement}), and it may revoke"
+            ),
+            Error::Contradicted { statement } => write!(
+                out,
+                "statements[{statement}]: it revokes, and contradicts another one of its issuer"
+            ),
             Error::Unexpected(what, number) => write!(
                 out,
                 "the library answered {what} {number}, of which this crate knows nothing"

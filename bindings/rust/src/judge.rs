@@ -1,7 +1,7 @@
 //! Who judges signatures, and what is asked (RFC 5280, 6; RFC 6960, 3.2).
 
 use std::cell::RefCell;
-use std::collections::HashMap;
+use std::collections::{HashMap, HashSet};
 use std::fmt;
 
 use crate::calls::{ask, ask_among, SearchCall};
@@ -25,7 +25,8 @@ pub struct SignatureQuestion<'a> {
     pub fingerprint: [u8; 32],
 }
 
-/// What a judge says of a signature. The verdict only sees whether it is `Good`; the others tell apart why it is not.
+/// What a judge says of a signature. Only a `Good` one counts. One that is `Wrong` is a forgery or somebody else's. Of a list or a response
+/// that is `NotServed` or `RefusedByPolicy` nobody knows whether it counts, so that no path is valid beside it ([`Error::Unjudged`]).
 #[derive(Clone, Copy, Debug, PartialEq, Eq, Hash)]
 #[must_use = "a signature counts only if it is Good"]
 pub enum Judgement {
@@ -37,9 +38,13 @@ pub enum Judgement {
     NotServed,
     /// The judge knows the algorithm and the key, and does not accept signatures of this kind.
     RefusedByPolicy,
+    /// The judge failed, as for lack of memory. This says nothing of the signature: the call that asked ends with
+    /// [`Error::CouldNotTell`].
+    CouldNotTell,
 }
 
-/// `true` is `Good`, `false` is `Wrong`.
+/// `true` is `Good`, `false` is `Wrong`: only who can judge each signature may say so. Of an algorithm that is not served, or refused, a
+/// [`Judgement`] has to be answered, as nobody is warned of a list that is `Wrong`.
 impl From<bool> for Judgement {
     fn from(is_good: bool) -> Judgement {
         if is_good {
@@ -57,6 +62,7 @@ impl fmt::Display for Judgement {
             Judgement::Wrong => "wrong",
             Judgement::NotServed => "not served",
             Judgement::RefusedByPolicy => "refused by policy",
+            Judgement::CouldNotTell => "could not tell",
         })
     }
 }
@@ -108,16 +114,17 @@ where
     F: FnMut(&SignatureQuestion<'_>) -> A,
     A: Into<Judgement>,
 {
-    /// A closure that is called while it runs does not serve.
+    /// A closure that is called while it runs cannot tell.
     fn judge(&self, question: &SignatureQuestion<'_>) -> Judgement {
         match self.0.try_borrow_mut() {
             Ok(mut ask) => ask(question).into(),
-            Err(_) => Judgement::NotServed,
+            Err(_) => Judgement::CouldNotTell,
         }
     }
 }
 
-/// A judge that accepts the signatures with these fingerprints, which were found good elsewhere, and no other.
+/// A judge that accepts the signatures with these fingerprints, which were found good elsewhere, and says of all others that they are wrong.
+/// So each statement that is handed in has to have been judged there: one that nobody could judge is passed over here.
 #[derive(Clone, Copy, Debug)]
 pub struct Fingerprints<'a>(pub &'a [[u8; 32]]);
 
@@ -130,8 +137,8 @@ impl Judge for Fingerprints<'_> {
 /// What a judge may be asked for a verdict or for what a search finds: about the certificates, in order, and then about each statement. One
 /// question may be there twice.
 pub struct SignatureQuestions<'a> {
-    values: Values<'a>,
-    fields: Vec<QuestionFields>,
+    pub(crate) values: Values<'a>,
+    pub(crate) fields: Vec<QuestionFields>,
 }
 
 impl<'a> SignatureQuestions<'a> {
@@ -186,6 +193,12 @@ impl<'a> SignatureQuestions<'a> {
             .map(|fields| self.question(fields))
     }
 
+    /// How many different ones there are.
+    pub(crate) fn different(&self) -> usize {
+        let prints: HashSet<[u8; 32]> = self.fields.iter().map(|it| it.fingerprint).collect();
+        prints.len()
+    }
+
     fn question(&self, fields: &QuestionFields) -> SignatureQuestion<'a> {
         let part = |place: Place| {
             self.values
@@ -219,15 +232,20 @@ impl<'j> Heard<'j> {
         }
     }
 
-    pub fn ask(&mut self, question: &SignatureQuestion<'_>) {
-        if self.said.contains_key(&question.fingerprint) {
-            return;
+    /// Asks about a signature, unless that was done before. If the judge cannot tell, there is no answer to anything.
+    pub fn ask(&mut self, question: &SignatureQuestion<'_>) -> Result<(), Error> {
+        let fingerprint = question.fingerprint;
+        if self.said.contains_key(&fingerprint) {
+            return Ok(());
         }
         let judgement = self.judge.judge(question);
-        self.said.insert(question.fingerprint, judgement);
-        if judgement == Judgement::Good {
-            self.good.push(question.fingerprint);
+        match judgement {
+            Judgement::CouldNotTell => return Err(Error::CouldNotTell { fingerprint }),
+            Judgement::Good => self.good.push(fingerprint),
+            Judgement::Wrong | Judgement::NotServed | Judgement::RefusedByPolicy => {}
         }
+        self.said.insert(fingerprint, judgement);
+        Ok(())
     }
 
     /// What was said of the signature with this fingerprint.

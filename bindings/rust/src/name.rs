@@ -1,8 +1,11 @@
 //! Names as text (RFC 4514).
 //!
-//! A name was read by the library before it comes here. This walk takes it apart again, for print alone; no verdict rests on it.
+//! A name was read by the library before it comes here. It is taken apart again for print, and to count the names that may match; no
+//! verdict rests on it.
 
 use std::fmt::Write;
+
+use crate::der::{inside, values, Value, OBJECT_IDENTIFIER, SEQUENCE, SET};
 
 /// Types of attributes that have a short name (RFC 4514, 3), by the contents of the OBJECT IDENTIFIER.
 const SHORT_NAMES: [(&[u8], &str); 9] = [
@@ -23,72 +26,9 @@ const SHORT_NAMES: [(&[u8], &str); 9] = [
     ),
 ];
 
-const OBJECT_IDENTIFIER: u8 = 0x06;
-const SEQUENCE: u8 = 0x30;
-const SET: u8 = 0x31;
 const BMP_STRING: u8 = 0x1E;
 /// UTF8String, NumericString, PrintableString, IA5String and VisibleString: their contents are text as they are.
 const PLAIN_STRINGS: [u8; 5] = [0x0C, 0x12, 0x13, 0x16, 0x1A];
-
-/// A value of DER.
-struct Value<'a> {
-    identifier: u8,
-    contents: &'a [u8],
-    octets: &'a [u8],
-}
-
-/// The contents of the length octets, and how many octets they are (X.690, 8.1.3 and 10.1).
-fn length_in(octets: &[u8]) -> Option<(usize, usize)> {
-    let first = usize::from(*octets.first()?);
-    if first < 0x80 {
-        return Some((first, 1));
-    }
-    let count = first - 0x80;
-    let digits = octets.get(1..1 + count)?;
-    if !(1..=4).contains(&count) || digits[0] == 0 {
-        return None;
-    }
-    let length = digits
-        .iter()
-        .fold(0, |sum, digit| sum << 8 | usize::from(*digit));
-    (length >= 0x80).then_some((length, 1 + count))
-}
-
-/// The value with which the octets begin, and the octets behind it.
-fn first_value(octets: &[u8]) -> Option<(Value<'_>, &[u8])> {
-    let identifier = *octets.first()?;
-    if identifier & 0x1F == 0x1F {
-        return None;
-    }
-    let (length, count) = length_in(&octets[1..])?;
-    let end = (1 + count).checked_add(length)?;
-    let value = Value {
-        identifier,
-        contents: octets.get(1 + count..end)?,
-        octets: &octets[..end],
-    };
-    Some((value, &octets[end..]))
-}
-
-/// The values of the octets, one behind the other to the end.
-fn values(mut octets: &[u8]) -> Option<Vec<Value<'_>>> {
-    let mut found = Vec::new();
-    while !octets.is_empty() {
-        let (value, behind) = first_value(octets)?;
-        found.push(value);
-        octets = behind;
-    }
-    Some(found)
-}
-
-/// The values inside a value with this identifier.
-fn inside<'a>(value: &Value<'a>, identifier: u8) -> Option<Vec<Value<'a>>> {
-    if value.identifier == identifier {
-        values(value.contents)
-    } else {
-        None
-    }
-}
 
 /// The numbers of an OBJECT IDENTIFIER with dots between them; none if one has more than 128 bits, or the last is cut off.
 pub(crate) fn dotted(contents: &[u8]) -> Option<String> {
@@ -204,6 +144,47 @@ pub(crate) fn text_of(name: &[u8]) -> Option<String> {
     Some(text)
 }
 
+/// A key that two names have in common if they match (RFC 5280, 7.1), and perhaps if they do not: only to count which may.
+pub(crate) fn loose_key(name: &[u8]) -> Vec<u8> {
+    loose_key_of(name).unwrap_or_else(|| name.to_vec())
+}
+
+fn loose_key_of(name: &[u8]) -> Option<Vec<u8>> {
+    let outermost = values(name)?;
+    let mut key = Vec::new();
+    for relative in inside(outermost.first()?, SEQUENCE)? {
+        let attributes: Option<Vec<Vec<u8>>> = inside(&relative, SET)?
+            .iter()
+            .map(loose_attribute)
+            .collect();
+        // (their order in DER is that of texts which match without being the same)
+        let mut attributes = attributes?;
+        attributes.sort();
+        key.extend(attributes.concat());
+    }
+    Some(key)
+}
+
+/// An attribute: a text without regard to its type, the case of ASCII letters, and spaces.
+fn loose_attribute(attribute: &Value<'_>) -> Option<Vec<u8>> {
+    let members = inside(attribute, SEQUENCE)?;
+    let [kind, value] = &members[..] else {
+        return None;
+    };
+    let mut key = kind.octets.to_vec();
+    match PLAIN_STRINGS.contains(&value.identifier) {
+        true => key.extend(
+            value
+                .contents
+                .iter()
+                .filter(|octet| **octet != b' ')
+                .map(u8::to_ascii_lowercase),
+        ),
+        false => key.extend(value.octets),
+    }
+    Some(key)
+}
+
 #[cfg(test)]
 mod tests {
     use super::*;
@@ -292,6 +273,34 @@ mod tests {
         assert_eq!(common_name(BMP_STRING, b"\0"), "CN=#1E0100");
         assert_eq!(common_name(0x14, b"a"), "CN=#140161");
         assert_eq!(common_name(0x0C, b""), "CN=");
+    }
+
+    /// Two names that match (RFC 5280, 7.1), whose attributes stand in another order, and two that do not.
+    #[test]
+    fn loose_keys_of_names_that_match() {
+        let pair = |unit: &[u8], other: u8, name: &[u8]| {
+            [
+                attribute(&[0x55, 4, 11], 0x13, unit),
+                attribute(&[0x55, 4, 3], other, name),
+            ]
+        };
+        let [unit, common] = pair(b"SALES", 0x0C, b"  j.   Smith ");
+        let matching = [
+            name(&[&pair(b"sales", 0x13, b"J. Smith")]),
+            name(&[&[common, unit]]),
+        ];
+        assert_eq!(loose_key(&matching[0]), loose_key(&matching[1]));
+        let others = [
+            name(&[&pair(b"sales", 0x13, b"J. Smyth")]),
+            name(&[&pair(b"sales", 0x1E, b"J. Smith")]),
+            name(&[
+                &pair(b"sales", 0x13, b"J. Smith"),
+                &[attribute(&[0x55, 4, 6], 0x13, b"XX")],
+            ]),
+        ];
+        for other in others {
+            assert_ne!(loose_key(&other), loose_key(&matching[0]));
+        }
     }
 
     #[test]

@@ -23,6 +23,7 @@ use crate::library::CERTIFICATES;
 use crate::query::{check_purpose, Asking, Profile, Query, MOST_CERTIFICATES, MOST_HANDED};
 use crate::reference::{Reference, SpeakingError};
 use crate::search::{Finding, Limits, Peer, Search, SearchError};
+use crate::usage;
 use crate::verdict::Verdict;
 
 use answers::{finding_in, verdict_in, Form, Reply, SearchWords};
@@ -77,6 +78,10 @@ pub struct PartySearch<'a> {
 ///
 /// A signature that was found good stays so for all calls, whoever judged it, until [`forget`](Party::forget); it takes 40 octets of memory
 /// in the process, and about as many here. A judge that is handed to a call must not call the party itself: it may wait for ever.
+///
+/// A party belongs to the process that made it. In one that is forked from that, each call is an error, [`PartyError::Forked`], and nothing
+/// happens if the party is dropped; a new party may be made there. The process that answers ends if the party is dropped, or if the party's
+/// own process ends, whatever was forked from that.
 ///
 /// ```
 /// # fn main() -> Result<(), Box<dyn std::error::Error>> {
@@ -139,7 +144,7 @@ impl Party {
     pub fn start(program: Command, store: impl AsRef<Path>) -> Result<Party, PartyError> {
         let mut program = program;
         program.arg("session").arg("--store").arg(store.as_ref());
-        Party::to(Target::Program(program), true)
+        Party::to(Target::program(program), true)
     }
 
     /// Connects to a socket behind which a session answers, and again whenever the connection was closed. What is believed there may be
@@ -171,54 +176,72 @@ impl Party {
 
     /// From now on a signature with this fingerprint is good.
     pub fn believe(&self, fingerprint: &[u8; 32]) -> Result<(), PartyError> {
-        let _call = self.call();
+        let _call = self.call()?;
         self.ask_believing(&[], Request::believe(fingerprint), &[])
             .map(drop)
     }
 
-    /// No signature is good any more, until a judge is asked again. Waits for the calls of other threads.
+    /// No signature is good any more, until a judge is asked again. Waits for the calls of other threads. If there is an error, the process
+    /// is ended, and none is good all the same.
     pub fn forget(&self) -> Result<(), PartyError> {
+        self.channel.check_process()?;
         let _alone = self.calls.write().unwrap_or_else(PoisonError::into_inner);
-        self.ask_believing(&[], Request::of("forget".into(), Form::Forget), &[])
-            .map(drop)
+        let told = self.ask_believing(&[], Request::forget(), &[]);
+        if told.is_err() {
+            self.channel.forget();
+        }
+        told.map(drop)
     }
 
     /// The verdict on a path by what the store holds, of who believes the judge (RFC 5280, 6; RFC 6960, 3.2). It is asked about the
     /// signature of each certificate, unless that was found good before.
     pub fn check(&self, query: &PartyQuery<'_>, judge: &dyn Judge) -> Result<Answer, PartyError> {
-        let _call = self.call();
-        let asking = Asking::of(&query.at_hand())?;
+        let _call = self.call()?;
+        let asking = Asking::of(&query.at_hand(), None)?;
         let words = query.words();
         let request = Request::of(query.line(&words)?, Form::Check);
         let judge = self.judge_once(judge);
         let mut heard = Heard::nothing(&judge);
         if query.path.len() <= MOST_CERTIFICATES {
-            asking.ask_about(CERTIFICATES, &mut heard);
+            asking.ask_about(CERTIFICATES, &mut heard)?;
         }
+        let numbered: Vec<String> = (0..words.len())
+            .map(|number| format!("certificates[{number}]"))
+            .collect();
         let names: Vec<(&str, &str)> = words
             .iter()
-            .map(|word| (&word[..], "certificates"))
+            .zip(&numbered)
+            .map(|(word, name)| (&word[..], &name[..]))
             .collect();
         let reply = self.ask_believing(&heard.good, request, &names)?;
         match verdict_in(reply.status, &reply.text, query.path.len()) {
-            Some(verdict) => Ok(asking.answer(verdict, &heard)?),
+            Some(verdict) => Ok(asking.answer(asking.with_usage(verdict)?, &heard)?),
             None => Err(self.distrust("check", &reply)),
         }
     }
 
     /// A path to the first certificate with its verdict by what the store holds, of who believes the judge (RFC 4158). It is asked about
     /// each certificate under each that has its issuer's name, unless that was found good before. The program's own limits hold
-    /// (docs/REFERENCE.md, "find"). If no path is found, [`Search::find`] says why; `why_not` of the answer is empty.
+    /// (docs/REFERENCE.md, "find"), and the judge is not asked if there are more questions. If no path is found, [`Search::find`] says why;
+    /// `why_not` of the answer is empty.
     pub fn find(&self, search: &PartySearch<'_>, judge: &dyn Judge) -> Result<Peer, PartyError> {
-        let _call = self.call();
+        let _call = self.call()?;
         let at_hand = search.at_hand();
         search.purpose.map_or(Ok(()), check_purpose)?;
-        let questions = at_hand.signature_questions().map_err(of_search)?;
+        let questions = at_hand.questions_within_limits().map_err(of_search)?;
         let target = search.certificates[0];
         let speaks = at_hand.speaks(target).map_err(of_search)?;
+        let Some(questions) = questions else {
+            return Ok(Peer::without_path(Finding::GaveUp, target)?);
+        };
+        if !usage::allows(target, search.purpose)? {
+            return Ok(Peer::without_path(Finding::NotFound, target)?);
+        }
         let judge = self.judge_once(judge);
         let mut heard = Heard::nothing(&judge);
-        questions.iter().for_each(|question| heard.ask(&question));
+        for question in questions.iter() {
+            heard.ask(&question)?;
+        }
         let (finding, path) = self.found(search, &heard.good)?;
         let path: Result<Vec<Identity>, Error> = path.into_iter().map(identity_of).collect();
         Ok(Peer {
@@ -227,9 +250,7 @@ impl Party {
                 _ => finding,
             },
             path: path?,
-            target: identity_of(target)?,
-            why_not: None,
-            ignored: Vec::new(),
+            ..Peer::without_path(finding, target)?
         })
     }
 
@@ -258,8 +279,10 @@ impl Party {
         found.ok_or_else(|| self.distrust("find", &reply))
     }
 
-    fn call(&self) -> RwLockReadGuard<'_, ()> {
-        self.calls.read().unwrap_or_else(PoisonError::into_inner)
+    /// A call begins, unless this process was forked from the party's own.
+    fn call(&self) -> Result<RwLockReadGuard<'_, ()>, PartyError> {
+        self.channel.check_process()?;
+        Ok(self.calls.read().unwrap_or_else(PoisonError::into_inner))
     }
 
     /// The judge, which is not asked about what is believed already.
@@ -409,6 +432,7 @@ fn identity_of(octets: &[u8]) -> Result<Identity, Error> {
 fn of_search(error: SearchError) -> PartyError {
     match error {
         SearchError::NoTarget => PartyError::Request("no certificate is in question"),
+        SearchError::TooManyQuestions => PartyError::Request("there are too many questions"),
         SearchError::Speaking(SpeakingError::Library(error)) => PartyError::Input(error),
         SearchError::Speaking(error) => PartyError::Speaking(error),
     }

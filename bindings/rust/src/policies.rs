@@ -6,7 +6,7 @@ use crate::answer::{Answer, NotValid};
 use crate::fault::Error;
 use crate::identifier::ObjectIdentifier;
 use crate::judge::Judge;
-use crate::query::{readable, Query};
+use crate::query::Query;
 use crate::verdict::Verdict;
 
 /// The contents of anyPolicy (RFC 5280, 4.2.1.4).
@@ -27,6 +27,16 @@ pub struct PolicyInputs<'a> {
 }
 
 impl<'a> PolicyInputs<'a> {
+    /// Takes every policy, and requires none.
+    pub(crate) fn any() -> PolicyInputs<'static> {
+        PolicyInputs {
+            initial_policies: None,
+            require_explicit_policy: false,
+            inhibit_policy_mapping: false,
+            inhibit_any_policy: false,
+        }
+    }
+
     /// The contents of the policies that the user takes.
     pub(crate) fn contents(&self) -> Vec<&'a [u8]> {
         match self.initial_policies {
@@ -98,14 +108,8 @@ impl QueryWithPolicies<'_> {
 
     /// As [`Query::answer_by_readable`].
     pub fn answer_by_readable(&self, judge: &dyn Judge) -> Result<Answer, Error> {
-        let (statements, ignored) =
-            readable(self.query.anchor, self.query.statements, self.query.profile)?;
-        let query = Query {
-            statements: &statements,
-            ..self.query
-        };
-        let answer = query.answer_under(self.inputs, judge)?;
-        Ok(Answer { ignored, ..answer })
+        self.query
+            .answer_by_readable_under(Some(self.inputs), judge)
     }
 
     /// As [`Query::require_valid`].

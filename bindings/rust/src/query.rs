@@ -11,6 +11,8 @@ use crate::identity::Identity;
 use crate::judge::{Heard, Judge, Judgement, SignatureQuestions};
 use crate::library::{CERTIFICATES, STATEMENTS};
 use crate::policies::{Policies, PolicyInputs};
+use crate::standing::{Grounds, Standings};
+use crate::usage;
 use crate::values::Values;
 use crate::verdict::{Reason, Verdict};
 
@@ -74,9 +76,15 @@ impl<'a> Query<'a> {
 
     /// The answer of who believes the judge, or the first fault of a certificate or a statement that cannot be read.
     ///
-    /// The judge is asked about the statements only if the path is valid without them, and about each signature at most once.
+    /// The judge is asked about the statements only if the path is valid without them, and about each signature at most once. If a purpose
+    /// is asked for, the keyUsage of the last certificate has to be consistent with it too (RFC 5280, 4.2.1.12).
+    ///
+    /// Instead of `Valid` the answer is an error if a statement that may be by an issuer of the path was judged by nobody
+    /// ([`Error::Unjudged`]), or if an issuer of the path signed two that contradict each other, one of which revokes a certificate of the
+    /// path ([`Error::Contradicted`]). To find the latter, the statements of each issuer that signed several are read once more, and all
+    /// are read once more for each certificate of the path that one of them revokes by itself.
     pub fn answer(&self, judge: &dyn Judge) -> Result<Answer, Error> {
-        Asking::of(self)?.answered(judge)
+        Asking::of(self, None)?.answered(judge, false)
     }
 
     /// The same, with the policies of the path.
@@ -85,24 +93,33 @@ impl<'a> Query<'a> {
         inputs: PolicyInputs<'a>,
         judge: &dyn Judge,
     ) -> Result<Answer, Error> {
-        let inputs = Some(inputs);
-        let asking = Asking {
-            inputs,
-            ..Asking::of(self)?
-        };
-        asking.answered(judge)
+        Asking::of(self, Some(inputs))?.answered(judge, false)
     }
 
-    /// As [`answer`](Query::answer), but a statement that cannot be read is left out, and the answer names it among the `ignored`.
+    /// As [`answer`](Query::answer), but a statement that cannot be read, or that nobody could judge, is left out, and the answer names it
+    /// among the `ignored`.
     ///
     /// What such a statement would have said is lost: an older one may speak in its place.
     pub fn answer_by_readable(&self, judge: &dyn Judge) -> Result<Answer, Error> {
-        let (statements, ignored) = readable(self.anchor, self.statements, self.profile)?;
+        self.answer_by_readable_under(None, judge)
+    }
+
+    /// The same, with the policies of the path if they are asked for.
+    pub(crate) fn answer_by_readable_under(
+        &self,
+        inputs: Option<PolicyInputs<'_>>,
+        judge: &dyn Judge,
+    ) -> Result<Answer, Error> {
+        let readable = Readable::of(self.anchor, self.statements, self.profile)?;
         let query = Query {
-            statements: &statements,
+            statements: &readable.statements,
             ..*self
         };
-        let answer = query.answer(judge)?;
+        let asking = Asking::of(&query, inputs)?;
+        let answer = asking
+            .answered(judge, true)
+            .map_err(|error| readable.in_place(error))?;
+        let ignored = readable.all_ignored(&answer.ignored);
         Ok(Answer { ignored, ..answer })
     }
 
@@ -134,34 +151,69 @@ impl<'a> Query<'a> {
     }
 }
 
-/// The statements that can be read in the profile, and the faults of the others. Each is read alone, behind a certificate.
-pub(crate) fn readable<'a>(
-    anchor: &[u8],
-    statements: &[&'a [u8]],
-    profile: Profile,
-) -> Result<(Vec<&'a [u8]>, Vec<Fault>), Error> {
-    let (mut readable, mut ignored) = (Vec::new(), Vec::new());
-    for (index, statement) in statements.iter().enumerate() {
-        let alone = Query {
-            anchor,
-            path: &[],
-            statements: slice::from_ref(statement),
-            moment: 0,
-            purpose: None,
-            profile,
-        };
-        match ask(&alone) {
-            Ok(_) => readable.push(*statement),
-            Err(Error::Refused(fault)) if matches!(fault.value, Some((Text::Statements, _))) => {
-                ignored.push(Fault {
-                    value: Some((Text::Statements, index)),
-                    ..fault
-                });
+/// The statements that can be read in the profile, where they stood among all, and the faults of the others.
+#[derive(Default)]
+pub(crate) struct Readable<'a> {
+    pub statements: Vec<&'a [u8]>,
+    places: Vec<usize>,
+    pub ignored: Vec<Fault>,
+}
+
+impl<'a> Readable<'a> {
+    /// Each is read alone, behind a certificate.
+    pub(crate) fn of(
+        anchor: &[u8],
+        statements: &[&'a [u8]],
+        profile: Profile,
+    ) -> Result<Readable<'a>, Error> {
+        let mut readable = Readable::default();
+        for (index, statement) in statements.iter().enumerate() {
+            let alone = Query {
+                anchor,
+                path: &[],
+                statements: slice::from_ref(statement),
+                moment: 0,
+                purpose: None,
+                profile,
+            };
+            match ask(&alone) {
+                Ok(_) => {
+                    readable.statements.push(*statement);
+                    readable.places.push(index);
+                }
+                Err(Error::Refused(fault)) if is_of_statement(&fault) => {
+                    let value = Some((Text::Statements, index));
+                    readable.ignored.push(Fault { value, ..fault });
+                }
+                Err(error) => return Err(error),
             }
-            Err(error) => return Err(error),
+        }
+        Ok(readable)
+    }
+
+    /// An error about one of those that can be read, by its place among all.
+    pub(crate) fn in_place(&self, error: Error) -> Error {
+        match error {
+            Error::Contradicted { statement } => Error::Contradicted {
+                statement: self.places[statement],
+            },
+            other => other,
         }
     }
-    Ok((readable, ignored))
+
+    /// What was ignored, with what was left out of those that can be read, by the places among all.
+    pub(crate) fn all_ignored(&self, left_out: &[Fault]) -> Vec<Fault> {
+        let in_place = |fault: &Fault| Fault {
+            value: fault.value.map(|(text, it)| (text, self.places[it])),
+            ..*fault
+        };
+        let left_out = left_out.iter().map(in_place);
+        self.ignored.iter().copied().chain(left_out).collect()
+    }
+}
+
+fn is_of_statement(fault: &Fault) -> bool {
+    matches!(fault.value, Some((Text::Statements, _)))
 }
 
 /// Reads a certificate in the profile, as one of a path. It stands below itself, and the library reads it twice.
@@ -197,24 +249,61 @@ pub(crate) struct Asking<'a> {
 /// The verdict, and the policies at the end of the path if they are processed and it is not invalid.
 type Said = (Verdict, Option<Policies>);
 
+/// What the library says of a query if these signatures are good and no others.
+pub(crate) fn verdict_by(
+    query: &Query<'_>,
+    inputs: Option<&PolicyInputs<'_>>,
+    good: &[[u8; 32]],
+) -> Result<Said, Error> {
+    let Some(inputs) = inputs else {
+        let verdict = Verdict::of(&validate(query, good)?, query.path.len())?;
+        return Ok((verdict, None));
+    };
+    let (answer, written) = validate_with_policies(query, inputs, good)?;
+    let verdict = Verdict::of(&answer, query.path.len())?;
+    Ok((verdict, Policies::of(verdict, written)?))
+}
+
 impl<'a> Asking<'a> {
-    pub(crate) fn of(query: &Query<'a>) -> Result<Asking<'a>, Error> {
+    pub(crate) fn of(
+        query: &Query<'a>,
+        inputs: Option<PolicyInputs<'a>>,
+    ) -> Result<Asking<'a>, Error> {
         query.purpose.map_or(Ok(()), check_purpose)?;
         Ok(Asking {
             questions: query.signature_questions()?,
             query: query.handed(),
             path_length: query.path.len(),
-            inputs: None,
+            inputs,
         })
     }
 
-    /// The answer of who believes the judge.
-    fn answered(&self, judge: &dyn Judge) -> Result<Answer, Error> {
+    /// The answer of who believes the judge. If that is asked for, statements that nobody could judge are left out.
+    fn answered(&self, judge: &dyn Judge, leaves_out: bool) -> Result<Answer, Error> {
         let mut heard = Heard::nothing(judge);
         let (verdict, policies) = self.verdict(&mut heard)?;
         self.check_length(verdict)?;
+        let ignored = match verdict {
+            Verdict::Invalid { .. } => Vec::new(),
+            _ => self.grounds(&heard).left_out(verdict, leaves_out)?,
+        };
         let answer = self.answer(verdict, &heard)?;
-        Ok(Answer { policies, ..answer })
+        Ok(Answer {
+            policies,
+            ignored,
+            ..answer
+        })
+    }
+
+    /// What the verdict on a path that is not invalid stands on.
+    fn grounds<'q>(&'q self, heard: &'q Heard<'_>) -> Grounds<'q> {
+        Grounds {
+            query: self.query,
+            inputs: self.inputs,
+            standings: Standings::of(&self.questions, heard),
+            issuers: (0..self.query.path.len()).collect(),
+            good: &heard.good,
+        }
     }
 
     /// Refuses a verdict on a part of the path, unless it is that the path is too long.
@@ -232,25 +321,18 @@ impl<'a> Asking<'a> {
         Ok(())
     }
 
-    /// What the library says if these signatures are good and no others.
+    /// What the library says by these statements if these signatures are good and no others.
     fn verdict_by(&self, statements: &[&[u8]], good: &[[u8; 32]]) -> Result<Said, Error> {
         let query = Query {
             statements,
             ..self.query
         };
-        let Some(inputs) = &self.inputs else {
-            let verdict = Verdict::of(&validate(&query, good)?, query.path.len())?;
-            return Ok((verdict, None));
-        };
-        let (answer, written) = validate_with_policies(&query, inputs, good)?;
-        let verdict = Verdict::of(&answer, query.path.len())?;
-        Ok((verdict, Policies::of(verdict, written)?))
+        verdict_by(&query, self.inputs.as_ref(), good)
     }
 
-    pub(crate) fn ask_about(&self, text: u32, heard: &mut Heard<'_>) {
-        for question in self.questions.of_text(text) {
-            heard.ask(&question);
-        }
+    pub(crate) fn ask_about(&self, text: u32, heard: &mut Heard<'_>) -> Result<(), Error> {
+        let mut questions = self.questions.of_text(text);
+        questions.try_for_each(|question| heard.ask(&question))
     }
 
     /// The verdict, as if the judge had been asked every question. A path is looked at before its statements, so a path that is invalid
@@ -259,13 +341,30 @@ impl<'a> Asking<'a> {
         if self.path_length > MOST_CERTIFICATES {
             return self.verdict_by(&[], &[]);
         }
-        self.ask_about(CERTIFICATES, heard);
-        let on_path = self.verdict_by(&[], &heard.good)?;
-        if matches!(on_path, (Verdict::Invalid { .. }, _)) {
-            return Ok(on_path);
+        self.ask_about(CERTIFICATES, heard)?;
+        let (verdict, _) = self.verdict_by(&[], &heard.good)?;
+        let on_path = self.with_usage(verdict)?;
+        if matches!(on_path, Verdict::Invalid { .. }) {
+            return Ok((on_path, None));
         }
-        self.ask_about(STATEMENTS, heard);
+        self.ask_about(STATEMENTS, heard)?;
         self.verdict_by(self.query.statements, &heard.good)
+    }
+
+    /// The verdict on the path, which is invalid too if the keyUsage of the last certificate is not consistent with the purpose.
+    pub(crate) fn with_usage(&self, verdict: Verdict) -> Result<Verdict, Error> {
+        let (Verdict::Valid | Verdict::Revoked { .. } | Verdict::Unknown { .. }, Some(last)) =
+            (verdict, self.query.path.last())
+        else {
+            return Ok(verdict);
+        };
+        match usage::allows(last, self.query.purpose)? {
+            true => Ok(verdict),
+            false => Ok(Verdict::Invalid {
+                certificate: self.query.path.len(),
+                reason: Reason::Purpose,
+            }),
+        }
     }
 
     /// Whom the certificate with this number names.

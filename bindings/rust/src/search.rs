@@ -9,17 +9,20 @@ use crate::fault::{Error, Fault, Text};
 use crate::identity::Identity;
 use crate::judge::{Heard, Judge, SignatureQuestions};
 use crate::library::{FindingAnswer, GAVE_UP, NOT_FOUND};
-use crate::query::{check_purpose, read_in, readable, Profile};
+use crate::pairs::are_within_limits;
+use crate::query::{check_purpose, read_in, Profile, Query, Readable};
 use crate::reference::{Reference, SpeakingError};
+use crate::standing::{Grounds, Standings};
+use crate::usage;
 use crate::values::Values;
-use crate::verdict::Verdict;
+use crate::verdict::{Reason, Verdict};
 use crate::why_not::WhyNot;
 
 /// What a search may spend. It gives up if one of these is used up; paths that servers send take a small part of it.
 #[derive(Clone, Copy, Debug, PartialEq, Eq)]
 pub struct Limits {
-    /// How often a judge may be asked whether one certificate issued another. With as many as there are pairs of certificates whose names
-    /// match, this never ends a search.
+    /// How many different questions a judge may be asked, about certificates and about statements. If there are more, it is asked none; and
+    /// if there are more pairs of certificates of which one has the name of the other's issuer, the questions are not even made.
     pub signatures: usize,
     /// How many ends of paths may be looked at; each takes up to a kilobyte of memory.
     pub steps: usize,
@@ -68,10 +71,22 @@ pub enum Finding {
     Found(Verdict),
     /// A path whose verdict is `Valid`, to a certificate that does not speak for the name that was asked for.
     OtherName,
-    /// No path meets the conditions.
+    /// No path meets the conditions, or the keyUsage of the certificate in question is not consistent with the purpose (RFC 5280,
+    /// 4.2.1.12).
     NotFound,
     /// A limit is used up.
     GaveUp,
+}
+
+impl Finding {
+    /// The verdict on the path, if one is found.
+    fn on_path(self) -> Option<Verdict> {
+        match self {
+            Finding::Found(verdict) => Some(verdict),
+            Finding::OtherName => Some(Verdict::Valid),
+            Finding::NotFound | Finding::GaveUp => None,
+        }
+    }
 }
 
 /// As the program prints it.
@@ -99,7 +114,9 @@ pub struct Peer {
     pub target: Identity,
     /// Why no path meets the conditions, if none is found for that.
     pub why_not: Option<WhyNot>,
-    /// What cannot be read and was left out, each with its fault: nothing unless that was asked for.
+    /// What was left out, each with its fault: nothing unless that was asked for. Beside what cannot be read these are the statements that
+    /// may be by an issuer of the path that is found, and that nobody could judge: a list with the fault 54 (BadSignature), a response with
+    /// 57 (NoSigner).
     pub ignored: Vec<Fault>,
 }
 
@@ -118,6 +135,9 @@ pub enum NotBelieved {
 pub enum SearchError {
     /// There is no certificate in question.
     NoTarget,
+    /// There are more pairs of certificates of which one has the name of the other's issuer than [`Limits::signatures`] lets, or more
+    /// statements beside them than this crate asks about. ([`Search::find`] answers [`Finding::GaveUp`] then.)
+    TooManyQuestions,
     /// The name that is asked for is none, or the library gives no answer.
     Speaking(SpeakingError),
 }
@@ -132,6 +152,7 @@ impl fmt::Display for SearchError {
     fn fmt(&self, out: &mut fmt::Formatter<'_>) -> fmt::Result {
         match self {
             SearchError::NoTarget => out.write_str("no certificate is in question"),
+            SearchError::TooManyQuestions => out.write_str("there are too many questions"),
             SearchError::Speaking(error) => error.fmt(out),
         }
     }
@@ -173,6 +194,17 @@ impl fmt::Display for Peer {
 }
 
 impl Peer {
+    /// What is said of a certificate to which no path is found.
+    pub(crate) fn without_path(finding: Finding, target: &[u8]) -> Result<Peer, Error> {
+        Ok(Peer {
+            finding,
+            path: Vec::new(),
+            target: Certificate::read(target)?.identity()?,
+            why_not: None,
+            ignored: Vec::new(),
+        })
+    }
+
     /// Whom the certificate names that decides, if the verdict is of one.
     pub fn decides(&self) -> Option<&Identity> {
         match self.finding {
@@ -195,60 +227,50 @@ impl<'a> Search<'a> {
     /// statement under those that may have issued it.
     pub fn signature_questions(&self) -> Result<SignatureQuestions<'a>, SearchError> {
         let target = self.target()?;
+        if !are_within_limits(self, target) {
+            return Err(SearchError::TooManyQuestions);
+        }
         Ok(SignatureQuestions::among(
             self.values(target),
             &self.call(target),
         )?)
     }
 
+    /// The same, and none if there are more than the limits let.
+    pub(crate) fn questions_within_limits(
+        &self,
+    ) -> Result<Option<SignatureQuestions<'a>>, SearchError> {
+        match self.signature_questions() {
+            Ok(questions) if questions.different() > self.limits.signatures => Ok(None),
+            Ok(questions) => Ok(Some(questions)),
+            Err(SearchError::TooManyQuestions) => Ok(None),
+            Err(error) => Err(error),
+        }
+    }
+
     /// What is found by who believes the judge, or the first fault of a certificate or a statement that cannot be read.
     ///
     /// The judge is asked about each signature at most once.
+    ///
+    /// Instead of a path whose verdict is `Valid` the answer is an error if a statement that may be by an issuer of that path was judged by
+    /// nobody ([`Error::Unjudged`]), or if an issuer of it signed two that contradict each other, one of which revokes a certificate of the
+    /// path ([`Error::Contradicted`]; [`Query::answer`] says what that costs).
     pub fn find(&self, judge: &dyn Judge) -> Result<Peer, SearchError> {
-        let target = self.target()?;
-        let speaks = self.speaks(target)?;
-        self.purpose.map_or(Ok(()), check_purpose)?;
-        let questions = self.signature_questions()?;
-        let mut heard = Heard::nothing(judge);
-        questions.iter().for_each(|question| heard.ask(&question));
-        let call = self.call(target);
-        let (answer, numbers) = find(&call, &heard.good)?;
-        let finding = finding_of(&answer, numbers.len(), speaks)?;
-        let values = self.values(target);
-        let named = Certificate::read(target)?.identity()?;
-        let why_not = match finding {
-            Finding::NotFound => Some(WhyNot::of(
-                &diagnose(&call, &heard.good)?,
-                &named,
-                |number| identity_of(&values, number),
-            )?),
-            _ => None,
-        };
-        let path: Result<Vec<Identity>, Error> = numbers
-            .into_iter()
-            .map(|number| identity_of(&values, number))
-            .collect();
-        Ok(Peer {
-            finding,
-            path: path?,
-            target: named,
-            why_not,
-            ignored: Vec::new(),
-        })
+        self.find_by(judge, false)
     }
 
-    /// As [`find`](Search::find), but what cannot be read is left out, statements and certificates behind the first, and the answer names
-    /// it among the `ignored`.
+    /// As [`find`](Search::find), but what cannot be read is left out, statements and certificates behind the first; so is a statement that
+    /// nobody could judge. The answer names it among the `ignored`.
     ///
     /// What such a statement would have said is lost: an older one may speak in its place; and a path may not be found.
     pub fn find_by_readable(&self, judge: &dyn Judge) -> Result<Peer, SearchError> {
         let target = self.target()?;
-        let (statements, mut ignored) = readable(target, self.statements, self.profile)?;
+        let mut readable = Readable::of(target, self.statements, self.profile)?;
         let mut certificates = vec![target];
         for (index, octets) in self.certificates.iter().enumerate().skip(1) {
             match read_in(self.profile, octets) {
                 Ok(()) => certificates.push(octets),
-                Err(Error::Refused(fault)) => ignored.push(Fault {
+                Err(Error::Refused(fault)) => readable.ignored.push(Fault {
                     value: Some((Text::Certificates, index)),
                     ..fault
                 }),
@@ -257,11 +279,99 @@ impl<'a> Search<'a> {
         }
         let search = Search {
             certificates: &certificates,
-            statements: &statements,
+            statements: &readable.statements,
             ..*self
         };
-        let peer = search.find(judge)?;
+        let peer = search.find_by(judge, true).map_err(|error| match error {
+            SearchError::Speaking(SpeakingError::Library(error)) => readable.in_place(error).into(),
+            other => other,
+        })?;
+        let ignored = readable.all_ignored(&peer.ignored);
         Ok(Peer { ignored, ..peer })
+    }
+
+    /// What is found by who believes the judge. If that is asked for, statements that nobody could judge are left out.
+    fn find_by(&self, judge: &dyn Judge, leaves_out: bool) -> Result<Peer, SearchError> {
+        let target = self.target()?;
+        let speaks = self.speaks(target)?;
+        self.purpose.map_or(Ok(()), check_purpose)?;
+        let Some(questions) = self.questions_within_limits()? else {
+            return Ok(Peer::without_path(Finding::GaveUp, target)?);
+        };
+        if !usage::allows(target, self.purpose)? {
+            let why_not = Some(self.why_no_purpose(target)?);
+            let peer = Peer::without_path(Finding::NotFound, target)?;
+            return Ok(Peer { why_not, ..peer });
+        }
+        let mut heard = Heard::nothing(judge);
+        for question in questions.iter() {
+            heard.ask(&question)?;
+        }
+        let (answer, numbers) = find(&self.call(target), &heard.good)?;
+        let finding = finding_of(&answer, numbers.len(), speaks)?;
+        let ignored = match finding.on_path() {
+            Some(verdict) => self.left_out(verdict, &questions, &heard, &numbers, leaves_out)?,
+            None => Vec::new(),
+        };
+        let why_not = match finding {
+            Finding::NotFound => Some(self.why_not(target, &heard.good)?),
+            _ => None,
+        };
+        let path: Result<Vec<Identity>, Error> = numbers
+            .into_iter()
+            .map(|number| identity_of(&questions.values, number))
+            .collect();
+        Ok(Peer {
+            finding,
+            path: path?,
+            target: Certificate::read(target)?.identity()?,
+            why_not,
+            ignored,
+        })
+    }
+
+    /// The statements that are left out beside the path with these numbers, or the error because of which it is not valid.
+    fn left_out(
+        &self,
+        verdict: Verdict,
+        questions: &SignatureQuestions<'a>,
+        heard: &Heard<'_>,
+        numbers: &[usize],
+        is_asked: bool,
+    ) -> Result<Vec<Fault>, Error> {
+        let certificate = |number: &usize| questions.values.certificates[*number];
+        let path: Vec<&[u8]> = numbers.iter().map(certificate).collect();
+        let query = Query {
+            anchor: path[0],
+            path: &path[1..],
+            statements: self.statements,
+            moment: self.moment,
+            purpose: self.purpose,
+            profile: self.profile,
+        };
+        let grounds = Grounds {
+            query,
+            inputs: None,
+            standings: Standings::of(questions, heard),
+            issuers: numbers[..numbers.len() - 1].to_vec(),
+            good: &heard.good,
+        };
+        grounds.left_out(verdict, is_asked)
+    }
+
+    /// Why no path meets the conditions if these signatures are good and no others.
+    fn why_not(&self, target: &'a [u8], good: &[[u8; 32]]) -> Result<WhyNot, Error> {
+        let (values, named) = (self.values(target), Certificate::read(target)?.identity()?);
+        let diagnosis = diagnose(&self.call(target), good)?;
+        WhyNot::of(&diagnosis, &named, |number| identity_of(&values, number))
+    }
+
+    /// The same if the keyUsage is not consistent with the purpose: whatever else is wrong with the certificate by itself may come first.
+    fn why_no_purpose(&self, target: &'a [u8]) -> Result<WhyNot, Error> {
+        match self.why_not(target, &[])? {
+            WhyNot::Target(reason) if reason < Reason::Purpose => Ok(WhyNot::Target(reason)),
+            _ => Ok(WhyNot::Target(Reason::Purpose)),
+        }
     }
 
     /// What is found if that is a path whose verdict is `Valid`, to a certificate that speaks for the name. Everything else is an error,

@@ -253,8 +253,7 @@ fn verdicts_by_lists_and_responses() {
 #[test]
 fn answers_name_whom_they_are_about() {
     let authority = Authority::read();
-    let identity =
-        |octets: &[u8]| Some(Certificate::read(octets).unwrap().identity().unwrap());
+    let identity = |octets: &[u8]| Some(Certificate::read(octets).unwrap().identity().unwrap());
     let (leaf, middle) = (identity(&authority.leaf), identity(&authority.middle));
     let lists = [&authority.root_list[..], &authority.middle_list];
     let valid = authority.answer(&lists, |_| {}).unwrap();

@@ -72,7 +72,10 @@ fn points_are_read_in_the_wide_profile() {
 
 #[test]
 fn constraints_on_mail_addresses_are_processed_in_the_wide_profile() {
-    let (root, authority) = (read_in("mail", "root.der"), read_in("mail", "authority.der"));
+    let (root, authority) = (
+        read_in("mail", "root.der"),
+        read_in("mail", "authority.der"),
+    );
     let judge = judge_by(|_| Judgement::Good);
     let answer = |profile, leaf| {
         let leaf = read_in("mail", leaf);

@@ -31,21 +31,32 @@ subjectAltName = DNS:www.example, IP:192.0.2.1
 extendedKeyUsage = serverAuth
 [client]
 extendedKeyUsage = clientAuth
+[only_signs]
+subjectAltName = DNS:www.example
+keyUsage = critical, keyCertSign
+extendedKeyUsage = serverAuth
 ";
 
 /// A root and an issuer below it, in a folder that is removed in the end.
 pub struct Authority {
     folder: PathBuf,
+    /// How `openssl genpkey` makes its keys.
+    keys: String,
 }
 
 impl Authority {
     pub fn new() -> Authority {
+        Authority::by("-algorithm EC -pkeyopt ec_paramgen_curve:P-256")
+    }
+
+    pub fn by(keys: &str) -> Authority {
         static FOLDERS: AtomicU64 = AtomicU64::new(0);
         let number = FOLDERS.fetch_add(1, Ordering::Relaxed);
         let folder =
             std::env::temp_dir().join(format!("x509check-tls-{}-{number}", std::process::id()));
         fs::create_dir(&folder).unwrap();
-        let authority = Authority { folder };
+        let keys = keys.to_string();
+        let authority = Authority { folder, keys };
         fs::write(authority.path("ca.cnf"), CONFIGURATION).unwrap();
         authority.root("root", "Root", "");
         authority.issue("middle", "root", "ca_extensions", "");
@@ -76,8 +87,7 @@ impl Authority {
     /// A key, unless there is one of that name, and a request for a certificate about it.
     fn request(&self, file: &str, name: &str, subject: &str) {
         if !self.path(&format!("{name}.key")).exists() {
-            let curve = "-algorithm EC -pkeyopt ec_paramgen_curve:P-256";
-            self.openssl(name, &format!("genpkey {curve} -out {name}.key"));
+            self.openssl(name, &format!("genpkey {} -out {name}.key", self.keys));
             let form = "-topk8 -nocrypt -outform DER";
             self.openssl(
                 name,
@@ -141,8 +151,16 @@ impl Authority {
 
     /// The next list of an issuer.
     pub fn list(&self, issuer: &str) -> Vec<u8> {
+        self.list_by(issuer, "sha256")
+    }
+
+    /// The same by another digest.
+    pub fn list_by(&self, issuer: &str, digest: &str) -> Vec<u8> {
         let words = format!("ca -config ca.cnf -keyfile {issuer}.key -cert {issuer}.pem");
-        self.openssl(issuer, &format!("{words} -gencrl -out {issuer}.crl"));
+        self.openssl(
+            issuer,
+            &format!("{words} -md {digest} -gencrl -out {issuer}.crl"),
+        );
         self.openssl(
             issuer,
             &format!("crl -in {issuer}.crl -outform DER -out list"),
@@ -150,15 +168,26 @@ impl Authority {
         fs::read(self.path("list")).unwrap()
     }
 
+    /// The next list has the number of the last one.
+    pub fn repeat_number(&self, issuer: &str) {
+        let last = self.path(&format!("{issuer}.number.old"));
+        fs::copy(last, self.path(&format!("{issuer}.number"))).unwrap();
+    }
+
     /// What the issuer itself says of a certificate, from this second on.
     pub fn response(&self, name: &str, issuer: &str) -> Vec<u8> {
+        self.response_by(name, issuer, "sha256")
+    }
+
+    /// The same by another digest.
+    pub fn response_by(&self, name: &str, issuer: &str, digest: &str) -> Vec<u8> {
         let about = format!("-issuer {issuer}.pem -cert {name}.pem -no_nonce");
         self.openssl(issuer, &format!("ocsp {about} -reqout request"));
         let signer = format!("-CA {issuer}.pem -rsigner {issuer}.pem -rkey {issuer}.key");
         let files = format!("-index {issuer}.index -reqin request -respout response");
         self.openssl(
             issuer,
-            &format!("ocsp {signer} {files} -ndays 30 -resp_no_certs"),
+            &format!("ocsp {signer} {files} -ndays 30 -resp_no_certs -rmd {digest}"),
         );
         fs::read(self.path("response")).unwrap()
     }

@@ -6,6 +6,7 @@
 use std::collections::{BTreeSet, VecDeque};
 use std::io::{BufRead, BufReader, Read, Write};
 use std::mem;
+use std::process;
 use std::sync::atomic::{AtomicBool, Ordering};
 use std::sync::mpsc::{self, RecvTimeoutError};
 use std::sync::{Arc, Condvar, Mutex, MutexGuard, PoisonError};
@@ -18,8 +19,6 @@ use crate::party::words::hex;
 use crate::party::PartyError;
 use crate::query::MOST_CERTIFICATES;
 
-/// For so long a process may end by itself once its input has ended.
-const CLOSING: Duration = Duration::from_secs(2);
 /// The octets that an answer may have beside those that echo its request.
 const MOST_ANSWER: usize = 1 << 16;
 /// So many octets of an answer that is none are told.
@@ -45,6 +44,10 @@ impl Request {
 
     pub(crate) fn greeting() -> Request {
         Request::of(GREETING.into(), Form::Greeting)
+    }
+
+    pub(crate) fn forget() -> Request {
+        Request::of("forget".into(), Form::Forget)
     }
 
     pub(crate) fn believe(print: &[u8; 32]) -> Request {
@@ -75,6 +78,8 @@ struct Pending {
     caller: Option<Caller>,
     /// How many processes ended when it was first in the row.
     deaths: u32,
+    /// As in the state when it was asked.
+    era: u64,
 }
 
 impl Pending {
@@ -98,13 +103,16 @@ struct State {
     sent: VecDeque<Pending>,
     /// What the process has answered that it believes.
     believed: BTreeSet<[u8; 32]>,
+    /// How often a request to forget has failed: what was asked to be believed before that is not believed by a late answer.
+    era: u64,
+    /// Whether the next process, or whoever is behind a socket, has to be asked to forget first.
+    owes_forgetting: bool,
     end: Option<End>,
     /// Why nothing more is heard from this process.
     over: Option<PartyError>,
     /// When a request was answered last.
     answered: Instant,
     is_closing: bool,
-    is_closed: bool,
 }
 
 struct Shared {
@@ -116,6 +124,8 @@ struct Shared {
 pub(crate) struct Channel {
     shared: Arc<Shared>,
     worker: Option<JoinHandle<()>>,
+    /// The number of the process that has these threads.
+    process: u32,
 }
 
 impl Channel {
@@ -125,11 +135,12 @@ impl Channel {
             queue: VecDeque::new(),
             sent: VecDeque::new(),
             believed: BTreeSet::new(),
+            era: 0,
+            owes_forgetting: false,
             end: None,
             over: None,
             answered: Instant::now(),
             is_closing: false,
-            is_closed: false,
         };
         let shared = Arc::new(Shared {
             state: Mutex::new(state),
@@ -143,7 +154,17 @@ impl Channel {
         Ok(Channel {
             shared,
             worker: Some(worker),
+            process: process::id(),
         })
+    }
+
+    /// An error in a process that was forked from the one that has the threads. Nothing else may be touched there: a lock may be held for
+    /// ever.
+    pub(crate) fn check_process(&self) -> Result<(), PartyError> {
+        match self.process == process::id() {
+            true => Ok(()),
+            false => Err(PartyError::Forked),
+        }
     }
 
     /// The answers to requests that are sent one behind the other, with none of another caller's between them.
@@ -189,21 +210,32 @@ impl Channel {
     pub(crate) fn distrust(&self) {
         self.shared.cut();
     }
+
+    /// Nothing is believed any more, whether the process has answered that or not: it is ended, and the next one is asked again.
+    pub(crate) fn forget(&self) {
+        let mut state = self.shared.lock();
+        state.believed.clear();
+        state.era += 1;
+        state.owes_forgetting = true;
+        drop(state);
+        self.shared.cut();
+    }
 }
 
-/// The process finds the end of its input and ends; if it does not, it is killed.
+/// The process is killed, and not only left without input: whatever was forked from this one has the other end of that pipe too. What was
+/// answered is in the store.
 impl Drop for Channel {
     fn drop(&mut self) {
-        let mut state = self.shared.lock();
-        state.is_closing = true;
+        let worker = self.worker.take();
+        if self.check_process().is_err() {
+            // (there is no such thread here, and the connection is the other's)
+            mem::forget(worker);
+            return;
+        }
+        self.shared.lock().is_closing = true;
         self.shared.changed.notify_all();
-        let waited = self
-            .shared
-            .changed
-            .wait_timeout_while(state, CLOSING, |state| !state.is_closed);
-        drop(waited);
         self.shared.cut();
-        if let Some(worker) = self.worker.take() {
+        if let Some(worker) = worker {
             let _ = worker.join();
         }
     }
@@ -228,6 +260,8 @@ impl Shared {
         heard: mpsc::Sender<Result<Reply, PartyError>>,
         is_gone: &Arc<AtomicBool>,
     ) {
+        let mut state = self.lock();
+        let era = state.era;
         let pending = requests.into_iter().map(|request| Pending {
             request,
             caller: Some(Caller {
@@ -235,8 +269,10 @@ impl Shared {
                 is_gone: Arc::clone(is_gone),
             }),
             deaths: 0,
+            era,
         });
-        self.lock().queue.extend(pending);
+        state.queue.extend(pending);
+        drop(state);
         self.changed.notify_all();
     }
 
@@ -270,8 +306,6 @@ impl Shared {
                 Err(error) => self.refuse_all(&PartyError::CannotStart(error.to_string())),
             }
         }
-        self.lock().is_closed = true;
-        self.changed.notify_all();
     }
 
     fn refuse_all(&self, why: &PartyError) {
@@ -286,7 +320,7 @@ impl Shared {
             answers,
             end,
         } = connection;
-        self.lock().end = Some(end);
+        self.begin(end);
         let text = self.opening();
         thread::scope(|scope| {
             let listener = thread::Builder::new().name("x509check answers".into());
@@ -294,21 +328,28 @@ impl Shared {
                 Ok(_) => self.speak(&mut *requests, text),
                 Err(error) => self.refuse_all(&PartyError::CannotStart(error.to_string())),
             }
-            // The end of its input ends a process.
             drop(requests);
-            self.cut_unless_ending();
+            self.cut_unless_over();
         });
         let end = self.lock().end.take();
         let how = end.map_or_else(String::new, End::wait);
         self.settle(how);
     }
 
-    /// Cuts a connection that neither its other side has ended nor the end of its input will end.
-    fn cut_unless_ending(&self) {
+    /// From now on the connection may be cut; it is, if the channel is closed already.
+    fn begin(&self, mut end: End) {
         let mut state = self.lock();
-        let ends =
-            state.over.is_some() || state.is_closing && matches!(state.end, Some(End::Process(_)));
-        if let (false, Some(end)) = (ends, &mut state.end) {
+        if state.is_closing {
+            end.cut();
+        }
+        state.end = Some(end);
+    }
+
+    /// Cuts a connection that its other side has not ended.
+    fn cut_unless_over(&self) {
+        let mut state = self.lock();
+        let is_over = state.over.is_some();
+        if let (false, Some(end)) = (is_over, &mut state.end) {
             end.cut();
         }
     }
@@ -330,18 +371,18 @@ impl Shared {
         }
     }
 
-    /// The lines with which a process begins: what is believed.
+    /// The lines with which a process begins: what is believed. Behind a socket somebody may believe what was said on a connection before.
     fn opening(&self) -> String {
         let mut state = self.lock();
-        let believed: Vec<Request> = state.believed.iter().map(Request::believe).collect();
-        state.sent = believed
-            .into_iter()
-            .map(|request| Pending {
-                request,
-                caller: None,
-                deaths: 0,
-            })
-            .collect();
+        let forget = state.owes_forgetting.then(Request::forget);
+        let believed = state.believed.iter().map(Request::believe);
+        let pending = forget.into_iter().chain(believed).map(|request| Pending {
+            request,
+            caller: None,
+            deaths: 0,
+            era: state.era,
+        });
+        state.sent = pending.collect();
         lines_of(state.sent.iter())
     }
 
@@ -372,15 +413,19 @@ impl Shared {
                 it.request.form,
                 it.request.most(),
                 word_of(&it.request.line),
+                it.caller.is_none(),
             )
         });
-        let Some((form, most, asked)) = first else {
+        let Some((form, most, asked, is_opening)) = first else {
             return Err(PartyError::Garbled("a line that answers nothing".into()));
         };
         let garbled = |line: &str| PartyError::Garbled(format!("{asked}: {}", told(line)));
         let mut answers = answers.take(most as u64);
         let line = line_from(&mut answers, &asked)?;
         let (status, text, more) = form.head(&line).ok_or_else(|| garbled(&line))?;
+        if is_opening && form == Form::Forget && status != 0 {
+            return Err(garbled(&line));
+        }
         let lines: Result<Vec<String>, PartyError> =
             (0..more).map(|_| line_from(&mut answers, &asked)).collect();
         self.pass_on(Reply {
@@ -398,10 +443,13 @@ impl Shared {
             return;
         };
         match pending.request.form {
-            Form::Believe(print) if reply.status == 0 => {
+            Form::Believe(print) if reply.status == 0 && pending.era == state.era => {
                 state.believed.insert(print);
             }
-            Form::Forget if reply.status == 0 => state.believed.clear(),
+            Form::Forget if reply.status == 0 => {
+                state.believed.clear();
+                state.owes_forgetting &= pending.caller.is_some();
+            }
             _ => {}
         }
         if pending.caller.is_some() {

@@ -2,9 +2,11 @@
 
 use std::io::{self, Read, Write};
 use std::net::Shutdown;
+use std::os::raw::{c_int, c_ulong};
 use std::os::unix::net::UnixStream;
+use std::os::unix::process::CommandExt;
 use std::path::PathBuf;
-use std::process::{Child, Command, Stdio};
+use std::process::{self, Child, Command, Stdio};
 use std::thread;
 use std::time::{Duration, Instant};
 
@@ -32,7 +34,34 @@ pub(crate) enum End {
     Socket(UnixStream),
 }
 
+/// PR_SET_PDEATHSIG (prctl(2)) and SIGTERM.
+const SET_SIGNAL_OF_DEATH: c_int = 1;
+const TERMINATE: c_ulong = 15;
+
+extern "C" {
+    fn prctl(option: c_int, ...) -> c_int;
+    fn getppid() -> c_int;
+}
+
 impl Target {
+    /// The program, whose process ends with this one. That its input ends then does not suffice: whatever was forked from this process has
+    /// the other end of that pipe too.
+    pub(crate) fn program(mut program: Command) -> Target {
+        let parent = process::id();
+        let end_with_parent = move || {
+            // (either call only speaks of the new process itself)
+            let is_set = unsafe { prctl(SET_SIGNAL_OF_DEATH, TERMINATE) } == 0;
+            let is_alive = u32::try_from(unsafe { getppid() }) == Ok(parent);
+            match is_set && is_alive {
+                true => Ok(()),
+                false => Err(io::Error::last_os_error()),
+            }
+        };
+        // Between fork and exec it makes two calls to the system and takes no memory.
+        unsafe { program.pre_exec(end_with_parent) };
+        Target::Program(program)
+    }
+
     pub(crate) fn connect(&mut self) -> io::Result<Connection> {
         match self {
             Target::Program(program) => started(program),

@@ -3,6 +3,7 @@
 use std::fmt;
 
 use crate::certificate::sha256;
+use crate::der::is_response;
 use crate::fault::Error;
 use crate::identity::Identity;
 use crate::judge::{Heard, Judge, Judgement, SignatureQuestions};
@@ -13,16 +14,24 @@ use crate::party::spool::Spooled;
 use crate::party::words::{file_word, hex, octets_word, MOST_LINE};
 use crate::party::{identity_of, Party, PartyError};
 use crate::query::{Profile, Query};
+use crate::standing::{Standing, Standings};
 
-/// ENUMERATED, with which an OCSP response begins (RFC 6960, 4.2.1).
-const ENUMERATED: u8 = 0x0A;
+/// A certificate that each profile can read. Questions about statements are asked of a path, and this stands below the issuer there.
+const BELOW: &[u8] = b"\x30\x4C\x30\x42\
+    \x02\x01\x01\
+    \x30\x03\x06\x01\x2A\
+    \x30\x0C\x31\x0A\x30\x08\x06\x03\x55\x04\x03\x0C\x01-\
+    \x30\x1E\x17\x0D700101000000Z\x17\x0D700101000000Z\
+    \x30\x00\
+    \x30\x08\x30\x03\x06\x01\x2A\x03\x01\x00\
+    \x30\x03\x06\x01\x2A\x03\x01\x00";
 /// Of the octets of a line so many are left to what is neither issuer nor statement.
 const REST_OF_LINE: usize = 256;
 
 /// How a store took a statement, and whose it is.
 #[derive(Clone, Debug, PartialEq, Eq)]
 #[non_exhaustive]
-#[must_use = "a statement may contradict what the store holds"]
+#[must_use = "the counts say whether anything was new"]
 pub struct Delivery {
     /// Whom the issuer's certificate names.
     pub issuer: Identity,
@@ -32,7 +41,8 @@ pub struct Delivery {
     pub stored: u64,
     /// How many are not, as they are older or were there already.
     pub kept: u64,
-    /// How many say something else than what the store holds under the same number or time: the issuer signed both.
+    /// How many say something else than what the store holds under the same number or time: the issuer signed both. It is 0, unless the
+    /// delivery comes with [`PartyError::Contradicted`].
     pub contradicted: u64,
 }
 
@@ -67,7 +77,10 @@ impl fmt::Display for Delivery {
 impl Party {
     /// Delivers a list or a response under the certificate of its issuer. First the program is asked which signatures there are (`prints`),
     /// and the judge about each of them that counts under that issuer and is not believed; what is good is believed from now on. If none
-    /// is, the program refuses the statement, and the error says what the judge said of its own signature.
+    /// is, the program refuses the statement, and the error says what the judge said of its own signature; it is
+    /// [`PartyError::Unjudged`] if the statement may be the issuer's all the same.
+    ///
+    /// A statement that contradicts what the store holds is [`PartyError::Contradicted`], so that `contradicted` of an answer is 0.
     ///
     /// A statement that does not fit into a line is handed over in a file of its own, in the folder for temporary files; over a socket
     /// it is an error.
@@ -77,10 +90,9 @@ impl Party {
         statement: &[u8],
         judge: &dyn Judge,
     ) -> Result<Delivery, PartyError> {
-        let _call = self.call();
-        // (the issuer's certificate stands for the one below it too, about which nothing is asked)
-        let (path, statements) = ([issuer], [statement]);
-        let questions = statement_questions(issuer, &path, &statements)?;
+        let _call = self.call()?;
+        let statements = [statement];
+        let questions = statement_questions(issuer, &statements)?;
         let (word, operand) = (octets_word(issuer), self.operand(issuer, statement)?);
         let names = [(&word[..], "issuer"), (&operand.word[..], "statement")];
         let asked = self.asked(&word, &operand, is_response(statement), &names)?;
@@ -90,22 +102,27 @@ impl Party {
             if !asked.contains(&question.fingerprint) {
                 return Err(self.distrust_prints(&question.fingerprint));
             }
-            heard.ask(&question);
+            heard.ask(&question)?;
         }
         let request = operand.request(format!("deliver {word} {}", operand.word), Form::Deliver);
         let own = asked.first().and_then(|own| heard.of(own));
+        let standing = Standings::of(&questions, &heard).under(0, &[0]);
         let reply = self
             .ask_believing(&heard.good, request, &names)
-            .map_err(|error| with_judgement(error, own))?;
-        match counts_in(&reply.text) {
-            Some(counts) => Ok(Delivery {
-                issuer: identity_of(issuer)?,
-                statement: sha256(statement),
-                stored: counts.stored,
-                kept: counts.kept,
-                contradicted: counts.contradicted,
-            }),
-            None => Err(self.distrust("deliver", &reply)),
+            .map_err(|error| with_judgement(error, own, standing))?;
+        let Some(counts) = counts_in(&reply.text) else {
+            return Err(self.distrust("deliver", &reply));
+        };
+        let delivery = Delivery {
+            issuer: identity_of(issuer)?,
+            statement: sha256(statement),
+            stored: counts.stored,
+            kept: counts.kept,
+            contradicted: counts.contradicted,
+        };
+        match delivery.contradicted {
+            0 => Ok(delivery),
+            _ => Err(PartyError::Contradicted(Box::new(delivery))),
         }
     }
 
@@ -161,31 +178,22 @@ impl Operand {
     }
 }
 
-/// What may be asked about statements of an issuer: in the wide profile, which reads what the stated one does alike. Whether the store serves
-/// a list at a point is the program's to say.
+/// What may be asked about statements of an issuer, which is read as the program reads it: as an anchor is, in the stated profile. The
+/// statements are read in the wide one, which reads what the stated one does alike. Whether the store serves a list at a point is the
+/// program's to say.
 fn statement_questions<'a>(
     issuer: &'a [u8],
-    path: &'a [&'a [u8]],
     statements: &'a [&'a [u8]],
 ) -> Result<SignatureQuestions<'a>, Error> {
     let query = Query {
         anchor: issuer,
-        path,
+        path: &[BELOW],
         statements,
         moment: 0,
         purpose: None,
         profile: Profile::Wide,
     };
     query.signature_questions()
-}
-
-/// Whether a statement, which was read before, is a response: the first value inside says so.
-fn is_response(statement: &[u8]) -> bool {
-    let inside = match statement.get(1) {
-        Some(length @ 0x80..) => 2 + usize::from(length & 0x7F),
-        _ => 2,
-    };
-    statement.get(inside) == Some(&ENUMERATED)
 }
 
 /// The fingerprints in the lines of `prints`: one of the value itself, and behind it two for each certificate that comes with a response.
@@ -205,10 +213,14 @@ fn prints_in(reply: &Reply, is_response: bool) -> Option<Vec<[u8; 32]>> {
     [first].into_iter().chain(behind).collect()
 }
 
-/// A refusal, with what was said of the statement's own signature unless that is good.
-fn with_judgement(error: PartyError, own: Option<Judgement>) -> PartyError {
-    match (error, own) {
-        (PartyError::Refused { status: 4, text }, Some(judgement))
+/// A refusal, with what was said of the statement's own signature unless that is good. If nobody could judge whether the statement is the
+/// issuer's, that is an error of its own.
+fn with_judgement(error: PartyError, own: Option<Judgement>, standing: Standing) -> PartyError {
+    match (error, standing, own) {
+        (PartyError::Refused { status: 4, text }, Standing::Unjudged(judgement), _) => {
+            PartyError::Unjudged { text, judgement }
+        }
+        (PartyError::Refused { status: 4, text }, _, Some(judgement))
             if judgement != Judgement::Good =>
         {
             PartyError::Refused {
@@ -216,6 +228,6 @@ fn with_judgement(error: PartyError, own: Option<Judgement>) -> PartyError {
                 text: format!("{text}; signature {judgement}"),
             }
         }
-        (error, _) => error,
+        (error, _, _) => error,
     }
 }

@@ -5,6 +5,8 @@ use std::fmt;
 use std::time::Duration;
 
 use crate::fault::Error;
+use crate::judge::Judgement;
+use crate::party::Delivery;
 use crate::reference::SpeakingError;
 
 /// Why a party gives no answer. None of these is a verdict.
@@ -25,9 +27,22 @@ pub enum PartyError {
         /// What the program says against it.
         text: String,
     },
+    /// The program refused the statement, but nobody could judge its signature, so that it may be by the issuer. What it says is lost, and
+    /// it may be what revokes.
+    Unjudged {
+        /// What the program says against it.
+        text: String,
+        /// What the judge said of its signature, or of that of its delegate's certificate.
+        judgement: Judgement,
+    },
+    /// The statement says something else than what the store holds under the same number or time, which stays: the issuer signed both. If
+    /// this is the one that revokes, no verdict shows it. The counts say what was taken all the same.
+    Contradicted(Box<Delivery>),
+    /// The party belongs to the process that made it, and this one was forked from that.
+    Forked,
     /// No answer came within so much time. A delivery may have been taken all the same.
     TimedOut(Duration),
-    /// A certificate or a statement cannot be read, or the purpose is none.
+    /// A certificate or a statement cannot be read, the purpose is none, or the judge could not tell.
     Input(Error),
     /// The name that is asked for is none, or nobody can say whether the certificate speaks for it.
     Speaking(SpeakingError),
@@ -53,6 +68,15 @@ impl fmt::Display for PartyError {
             ),
             PartyError::Garbled(what) => write!(out, "no answer to the request: {what}"),
             PartyError::Refused { status, text } => write!(out, "{status} {text}"),
+            PartyError::Unjudged { text, judgement } => {
+                write!(out, "{text}; signature {judgement}")
+            }
+            PartyError::Contradicted(delivery) => {
+                write!(out, "contradicts what the store holds: {delivery}")
+            }
+            PartyError::Forked => {
+                out.write_str("the party belongs to the process that this one was forked from")
+            }
             PartyError::TimedOut(limit) => write!(out, "no answer within {} ms", limit.as_millis()),
             PartyError::Input(error) => error.fmt(out),
             PartyError::Speaking(error) => error.fmt(out),
