@@ -1,34 +1,16 @@
 -- What the store at a path holds, listed, and why it is not.
-use Rattle.std.specs.Prelude.{◌≡◌, ℕ, ℤ, List, Option, Some, None, option_map}
+use Rattle.std.specs.Prelude.{◌≡◌, ℕ, ℤ, List, Option, option_map}
 use Rattle.std.specs.Borrow.{Bor}
 use Rattle.statements_facts.specs.Statement.{Holdings}
 use Rattle.store_maps.specs.Held.{IsStoreOf}
-use Rattle.store_listing.specs.Listing.{Overview}
-use Rattle.store_listing.specs.Laws.{ListsOnce, ShowsHeld}
-use Rattle.cli_listing.specs.ListingText.{listing_text}
+use Rattle.cli_listing.specs.HeldText.{IsListingOf}
 use Rattle.cli_failures.specs.Report.{WritesText}
 use Rattle.cli_failures.specs.declared.failure.Failure.{Failure}
 use Rattle.cli_operands.specs.InOrder.{FailsFirst}
-use Rattle.cli_operands.specs.Moment.{IsMoment}
-use Rattle.cli_operands.specs.Asked.{IsBadTime}
+use Rattle.cli_operands.specs.Asked.{IsBadMoment, IsMomentOf}
 use Rattle.cli_store.specs.Standing.{IsFound, IsIntact, Places, Seen, the_same}
 use Rattle.cli.specs.Checked.{IsNotChecked}
 use Rattle.cli.specs.Streams.{FailsOrCuts}
-
--- a moment is asked about by its text, or none is
-abbrev pub IsMomentOf : Option (List ℕ) → Option ℤ → Type 0
-IsMomentOf None None = Unit {0}
-IsMomentOf (Some text) (Some seconds) = IsMoment text seconds
-IsMomentOf _ _ = ⊥
-
-abbrev pub IsBadMoment : Option (List ℕ) → Failure → Type 0
-IsBadMoment (Some text) failure = IsBadTime text failure
-IsBadMoment None failure = ⊥
-
--- the lines of a listing that shows what is held, slot by slot, and nothing twice
-abbrev pub IsListingOf : Option ℤ → Holdings → List ℕ → Type 0
-IsListingOf at held text =
-    (all : Overview) × ShowsHeld held all × ListsOnce all × (text ≡ listing_text at all)
 
 -- the lines of a store that was seen so, which was left in a state in which it holds the same, and that lasts
 abbrev pub HasListed : Places → List ℕ → Option ℤ → Seen → List ℕ → Type 0

@@ -1,54 +1,24 @@
 //! What the store at a path holds, as lines of text.
-ghost use Rattle.std.specs.Prelude.{◌≡◌, IfErr, IfOk, OnOk, map};
-ghost use Rattle.store_listing.specs.Listing.{seen_held_issuer, seen_listing};
-ghost use Rattle.cli_listing.specs.ListingText.{IdsRise, listing_text};
-ghost use Rattle.cli_failures.specs.declared.failure.Failure.TheVariants.{NoMemory};
+ghost use Rattle.std.specs.Prelude.{◌≡◌, IfErr, IfOk, OnOk};
 ghost use Rattle.cli_failures.specs.Report.{UnlessLate};
 ghost use Rattle.sqlite.specs.Files.{file_state};
 ghost use Rattle.store_adoption.specs.Creates.{IsSettled};
 ghost use Rattle.store_sql.specs.Statements.{IsDurable};
 ghost use Rattle.cli_store.specs.Standing.{IsNoAnswer, IsOpenIfClean, seen_in, the_same};
 ghost use Rattle.cli.specs.Checked.{IsNotChecked};
-ghost use Rattle.cli.specs.Listed.{FailsToList, HasListed, IsBadMoment, IsFailureOfListing, IsListed, IsListedAt, IsMomentOf, WritesListing, given};
+ghost use Rattle.cli.specs.Listed.{FailsToList, HasListed, IsFailureOfListing, IsListed, IsListedAt, WritesListing, given};
 
 use cli_failures::Failure;
 use cli_lines::write_front;
-use cli_listing::listing_to;
-use cli_operands::moment_of;
+use cli_operands::read_moment;
+use cli_steps::listing_lines;
 use cli_store::{Stores, failed};
 use relying::Fault;
 use sqlite_disk::Disk;
 use std::alloc::Global;
 use std::io::Write;
 use store::Store;
-use store_listing::{Listing, held_laws, read_listing};
-
-// The moment that is asked about, if one is.
-fn moment_asked<'a>(moment: Option<&str>) -> Result<Option<i64>, Failure<'a>>
-    ensures asked { IfOk result (IsMomentOf (given moment.entry)) }
-    ensures fails { IfErr result (IsBadMoment (given moment.entry)) }
-{
-    match moment {
-        Some(text) => match moment_of(text) {
-            Some(at) => Ok(Some(at)),
-            None => Err(Failure::BadTime),
-        },
-        None => Ok(None),
-    }
-}
-
-// The lines of what was listed, in memory, so that nothing is written of a store that does not answer.
-fn lines_of<'a>(alloc: Global, all: &Listing, at: Option<i64>) -> Result<Vec<u8>, Failure<'a>>
-    ensures lines { IfOk result (λ text. IdsRise (map seen_held_issuer all.now.issuers.items)
-        → text.items ≡ listing_text at (seen_listing all.now)) }
-    ensures fails { IfErr result (λ failure. failure ≡ NoMemory) }
-{
-    let mut text = Vec::new(alloc);
-    match listing_to(all, at, &mut text) {
-        Ok(()) => Ok(text),
-        Err(_) => Err(Failure::NoMemory),
-    }
-}
+use store_listing::{held_laws, read_listing};
 
 // The lines of the store, which is closed then.
 fn list_in<'a, D: Disk + Drop, S: Stores<Store<D>>>(
@@ -72,7 +42,7 @@ fn list_in<'a, D: Disk + Drop, S: Stores<Store<D>>>(
     let all = read_listing(alloc, &mut store.conn);
     source.close_store(path, store);
     match all {
-        Ok(all) => lines_of(alloc, &all, at),
+        Ok(all) => listing_lines(alloc, &all, at),
         Err(fault) => Err(failed(Fault::Store(fault))),
     }
 }
@@ -105,7 +75,7 @@ fn list_asked<'a, D: Disk + Drop, S: Stores<Store<D>>>(
     ensures fails { IfErr result (IsFailureOfListing (S.places source.now)
         path.entry.now (given moment.entry)) }
 {
-    let at = moment_asked(moment)?;
+    let at = read_moment(moment)?;
     list_at(source, alloc, path, at)
 }
 

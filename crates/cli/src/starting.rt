@@ -40,7 +40,7 @@ fn give_hint<E: Write>(
     err: &mut E,
 ) {
     let _ = match (line, outcome) {
-        (_, Err(failure)) => hint_to(rt, line, &failure, err),
+        (_, Err(failure)) => hint_to(rt, profile, line, &failure, err),
         (Line::Deliver { file, .. }, Ok(_)) => hint_after_delivery(rt, profile, file, err),
         (_, Ok(_)) => Ok(()),
     };

@@ -3,6 +3,7 @@
 use crate::looking::{Found, is_in_use, look_at};
 use cli_failures::{Failure, StoreRefusal};
 use cli_words::Line;
+use statements_facts::Profile;
 use std::io;
 use std::io::Write;
 
@@ -24,6 +25,23 @@ fn hint_about_value<W: Write>(
             writer,
             "{file} has to hold {wanted} in DER: 'x509check explain {topic}' says what is wrong with it"
         )
+    }
+}
+
+// The number of the fault of a list that does not speak for all certificates of a kind.
+const SCOPE: u8 = 48;
+
+// A list that speaks for a part of its issuer's certificates.
+fn hint_about_scope<W: Write>(profile: Profile, file: &str, writer: &mut W) -> io::Result<()> {
+    match profile {
+        Profile::Stated => writeln!(
+            writer,
+            "if {file} is published for one distribution point, '--profile wide' in front of the command takes it, into a store that was made so: 'x509check explain 48'"
+        ),
+        Profile::Wide => writeln!(
+            writer,
+            "'x509check explain 48' says what is wrong with {file}"
+        ),
     }
 }
 
@@ -110,10 +128,15 @@ fn hint_about_stores<W: Write>(
 }
 
 // Another database, or a store that was changed.
-fn hint_about_schema<W: Write>(writer: &mut W) -> io::Result<()> {
+fn hint_about_schema<W: Write>(profile: Profile, writer: &mut W) -> io::Result<()> {
+    let other = match profile {
+        Profile::Stated =>
+            "of the wide profile, which '--profile wide' in front of the command opens",
+        Profile::Wide => "of the stated profile, which opens without '--profile wide'",
+    };
     writeln!(
         writer,
-        "the file of the store is that of another profile or of another program, or was changed by one: 'x509check explain 72'"
+        "the store is one {other}; or the file is that of another program, or was changed by one: 'x509check explain 72'"
     )
 }
 
@@ -142,9 +165,11 @@ fn hint_about_purpose<W: Write>(writer: &mut W) -> io::Result<()> {
     )
 }
 
-/// Writes the line, which begins with `hint: `. It looks at the files that the failure names once more: what is found may have changed.
+/// Writes the line, which begins with `hint: `, about a run of this profile. It looks at the files that the failure names once more: what
+/// is found may have changed.
 pub fn hint_to<W: Write>(
     rt: &HostRuntime,
+    profile: Profile,
     line: &Line<'_>,
     failure: &Failure<'_>,
     writer: &mut W,
@@ -156,6 +181,12 @@ pub fn hint_to<W: Write>(
         }
         Failure::NoCertificate { file, .. } => {
             hint_about_value(rt, file, "a certificate", failure.topic(), writer)
+        }
+        Failure::NoRevocationList { file, .. } if failure.topic() == SCOPE => {
+            hint_about_scope(profile, file, writer)
+        }
+        Failure::NotGenuine { file, .. } if failure.topic() == SCOPE => {
+            hint_about_scope(profile, file, writer)
         }
         Failure::NoRevocationList { file, .. } => {
             hint_about_value(rt, file, "a revocation list", failure.topic(), writer)
@@ -192,7 +223,7 @@ pub fn hint_to<W: Write>(
         Failure::Unwritable => writeln!(writer, "standard output was closed, or its disk is full"),
         Failure::StoreFailed {
             refusal: StoreRefusal::Schema,
-        } => hint_about_schema(writer),
+        } => hint_about_schema(profile, writer),
         Failure::StoreFailed { .. } | Failure::Shut => hint_about_stores(rt, line, writer),
         Failure::NoMemory => writeln!(writer, "free memory, or raise the limit of the process"),
         Failure::NoInput => writeln!(writer, "standard input could not be read to its end"),

@@ -39,6 +39,16 @@ IsFailureOnFingerprints holds file failure = IsUnread holds file failure
 abbrev pub IsBadTime : List ℕ → Failure → Type 0
 IsBadTime text failure = (failure ≡ BadTime) × ((seconds : ℤ) → IsMoment text seconds → ⊥)
 
+-- a moment is asked about by its text, or none is
+abbrev pub IsMomentOf : Option (List ℕ) → Option ℤ → Type 0
+IsMomentOf None None = Unit {0}
+IsMomentOf (Some text) (Some seconds) = IsMoment text seconds
+IsMomentOf _ _ = ⊥
+
+abbrev pub IsBadMoment : Option (List ℕ) → Failure → Type 0
+IsBadMoment (Some text) failure = IsBadTime text failure
+IsBadMoment None failure = ⊥
+
 -- a purpose is asked for by its text, or none is
 abbrev pub IsPurposeOf : Option (List ℕ) → Option (List ℕ) → Type 0
 IsPurposeOf None None = Unit {0}

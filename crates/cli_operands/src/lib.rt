@@ -17,7 +17,7 @@ mod search_files;
 mod terms;
 mod verdict_lines;
 
-pub use moment::moment_of;
+pub use moment::{moment_of, read_moment};
 pub use name::{Name, identity_of, read_name};
 pub use operand_files::{Operands, read_operands};
 pub use policies::{PolicyTerms, read_policy_terms};

@@ -12,7 +12,7 @@ use Rattle.cli_words.specs.declared.line.Kind.{Kind}
 pub use Rattle.cli_words.specs.CommandLine.{kind_named}
 use Rattle.cli_requests.specs.Operands.{operand_in}
 use Rattle.cli_requests.specs.declared.request.Request.{Request as Owned}
-use Rattle.cli_requests.specs.declared.request.Request.TheVariants.{Nothing, Believe, Deliver, Check, CheckWithPolicies, Find, Prints, SearchPrints, Forget, Quit}
+use Rattle.cli_requests.specs.declared.request.Request.TheVariants.{Nothing, Believe, Deliver, Check, CheckWithPolicies, Find, Prints, SearchPrints, List as Held, Forget, Quit}
 use Rattle.cli_requests.specs.declared.request.RequestFault.{RequestFault}
 use Rattle.cli_requests.specs.declared.request.RequestFault.TheVariants.{Malformed, Memory}
 use Rattle.cli_requests.specs.declared.searching.SearchFiles as code
@@ -33,6 +33,7 @@ pub data Request : Type 0 where
   find : SearchTexts → Request
   prints : Kind → Bool → List ℕ → List ℕ → Request
   search_prints : Bool → SearchFiles → Request
+  list : Option (List ℕ) → Request
   forget : Request
   quit : Request
 
@@ -227,6 +228,12 @@ prints_in [] = None
 prints_in (first ∷ words) =
     if bytes_eq first (codes "parts") then prints_behind true words else prints_behind false (first ∷ words)
 
+-- `list [TIME]`
+abbrev pub list_in : List (List ℕ) → Option Request
+list_in [] = Some (list None)
+list_in (moment ∷ []) = Some (list (Some moment))
+list_in _ = None
+
 -- `forget` and `quit`
 abbrev pub alone : Request → List (List ℕ) → Option Request
 alone request [] = Some request
@@ -241,8 +248,9 @@ request_named name words =
     else (if bytes_eq name (codes "check") then check_in words
     else (if bytes_eq name (codes "find") then find_in words
     else (if bytes_eq name (codes "prints") then prints_in words
+    else (if bytes_eq name (codes "list") then list_in words
     else (if bytes_eq name (codes "forget") then alone forget words
-    else (if bytes_eq name (codes "quit") then alone quit words else None))))))
+    else (if bytes_eq name (codes "quit") then alone quit words else None)))))))
 
 abbrev pub request_in : List (List ℕ) → Option Request
 request_in [] = None
@@ -280,6 +288,7 @@ seen_request (CheckWithPolicies query policies) =
 seen_request (Find words) = find (seen_search_words words)
 seen_request (Prints kind with_parts issuer file) = prints kind with_parts issuer.now file.now
 seen_request (SearchPrints with_parts files) = search_prints with_parts (seen_files files)
+seen_request (Held moment) = list (option_map (λ text. text.now) moment)
 seen_request Forget = forget
 seen_request Quit = quit
 

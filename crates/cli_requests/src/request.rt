@@ -1,6 +1,6 @@
 //! What a line of a session asks for.
 ghost use Rattle.std.specs.Prelude.{◌≡◌, IfErr, IfOk, OnOk, Some, map, option_map, true};
-ghost use Rattle.cli_requests.specs.Requests.{IsFalse, IsNone, alone, are_operands, believe_in, check_in, deliver_in, is_passed_over, kind_named, print_in, prints_behind, prints_in, prints_of, purpose_in, request_in, request_named, request_on, search_prints_in, seen_request, octets_of_words, words_of};
+ghost use Rattle.cli_requests.specs.Requests.{IsFalse, IsNone, alone, are_operands, believe_in, check_in, deliver_in, is_passed_over, kind_named, list_in, print_in, prints_behind, prints_in, prints_of, purpose_in, request_in, request_named, request_on, search_prints_in, seen_request, octets_of_words, words_of};
 
 use crate::operand::is_operand;
 use crate::policies::asked_in;
@@ -44,6 +44,8 @@ pub enum Request<'a> {
         with_parts: bool,
         files: SearchFiles<'a>,
     },
+    /// Tell what is held, statement by statement, and with a moment whether each is in force then.
+    List(Option<&'a str>),
     /// Forget what `Believe` brought.
     Forget,
     /// End the session.
@@ -249,6 +251,18 @@ fn prints_in<'a>(alloc: Global, words: &[&'a str]) -> Result<Request<'a>, Reques
     }
 }
 
+fn list_in<'a>(words: &[&'a str]) -> Result<Request<'a>, RequestFault>
+    ensures reads { IfOk result (λ request.
+        list_in (octets_of_words words.now) ≡ Some (seen_request request)) }
+    ensures refuses { IfErr result (IsNone (list_in (octets_of_words words.now))) }
+{
+    match words {
+        [] => Ok(Request::List(None)),
+        [moment] => Ok(Request::List(Some(moment))),
+        _ => Err(RequestFault::Malformed),
+    }
+}
+
 // A request that is one word.
 fn alone<'a>(request: Request<'a>, words: &[&str]) -> Result<Request<'a>, RequestFault>
     ensures reads { IfOk result (λ read.
@@ -278,6 +292,7 @@ fn request_named<'a>(
         "check" => check_in(alloc, words),
         "find" => find_in(alloc, words),
         "prints" => prints_in(alloc, words),
+        "list" => list_in(words),
         "forget" => alone(Request::Forget, words),
         "quit" => alone(Request::Quit, words),
         _ => Err(RequestFault::Malformed),

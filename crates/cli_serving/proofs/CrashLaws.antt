@@ -7,12 +7,12 @@ use Rattle.statements_facts.specs.Statement.{Holdings}
 use Rattle.cli_failures.specs.Failures.{Holding}
 use Rattle.cli_failures.specs.declared.failure.Failure.{Failure}
 use Rattle.cli_operands.specs.Asked.{AcceptsJust}
-use Rattle.cli_requests.specs.Requests.{Request, nothing, believe, deliver, check, check_with_policies, find, prints, search_prints, forget, quit, request_on}
+use Rattle.cli_requests.specs.Requests.{Request, nothing, believe, deliver, check, check_with_policies, find, prints, search_prints, list, forget, quit, request_on}
 use Rattle.cli_steps.specs.Keeping.{Kept, taking, trying}
 use Rattle.cli_steps.specs.State.{SessionState, believing, forgetting, keeping}
 use Rattle.cli_steps.specs.Steps.{BelievesMore, DeliversFile, IsUndelivered, IsStep}
 use Rattle.cli_steps.specs.declared.answer.SessionAnswer.{SessionAnswer}
-use Rattle.cli_steps.specs.declared.answer.SessionAnswer.TheVariants.{Nothing, Believes, Forgets, Ends, Delivered, Told, ToldWithPolicies, Found, Prints, Failed, BadLine, LongLine}
+use Rattle.cli_steps.specs.declared.answer.SessionAnswer.TheVariants.{Nothing, Believes, Forgets, Ends, Delivered, Told, ToldWithPolicies, Found, Prints, Listed, Failed, BadLine, LongLine}
 use Rattle.cli_serving.specs.Crash.{CrashLosesNothing, FailsToDeliverThem, IsHeldOrMore, LosesNothing, SomeFailsToDeliverThem}
 use Rattle.cli_serving.specs.Serving.{AreAnswersToLines, IsAnswerOf, IsAnswerToLine, IsAnswerWithin}
 
@@ -72,6 +72,7 @@ delivers holds Before line issuer file old new (Told verdict) asks none so = abs
 delivers holds Before line issuer file old new (ToldWithPolicies verdict) asks none so = absurd none
 delivers holds Before line issuer file old new (Found path) asks none so = absurd none
 delivers holds Before line issuer file old new (Prints text) asks none so = absurd none
+delivers holds Before line issuer file old new (Listed text) asks none so = absurd none
 delivers holds Before line issuer file old new BadLine asks none so = absurd none
 delivers holds Before line issuer file old new LongLine asks none so = absurd none
 
@@ -87,6 +88,7 @@ keeps_it print old new (Told verdict) none = absurd none
 keeps_it print old new (ToldWithPolicies verdict) none = absurd none
 keeps_it print old new (Found path) none = absurd none
 keeps_it print old new (Prints text) none = absurd none
+keeps_it print old new (Listed text) none = absurd none
 keeps_it print old new BadLine none = absurd none
 keeps_it print old new LongLine none = absurd none
 
@@ -100,6 +102,7 @@ step holds Before line (check_with_policies path policies) old new answer asks (
 step holds Before line (find texts) old new answer asks (told, is) so = unchanged holds Before line old answer new is so
 step holds Before line (search_prints with_parts files) old new answer asks (told, is) so = unchanged holds Before line old answer new is so
 step holds Before line (prints kind with_parts issuer file) old new answer asks (told, is) so = unchanged holds Before line old answer new is so
+step holds Before line (list moment) old new answer asks (told, is) so = unchanged holds Before line old answer new is so
 step holds Before line forget old new answer asks (answered, is) so = same holds Before line old answer new.kept (ap (λ (state : SessionState). state.kept) is) so
 step holds Before line quit old new answer asks (answered, is) so = unchanged holds Before line old answer new is so
 

@@ -1,5 +1,6 @@
 -- Steps, from what was done on their way.
-use Rattle.std.proofs.Common.{◌≡◌, ℕ, List, ◌∷◌, Result, Ok, Err, inl, inr, refl, subst, sym}
+use Rattle.std.proofs.Common.{◌≡◌, ℕ, ℤ, List, ◌∷◌, Option, Result, Ok, Err, IfErr, IfOk, inl, inr, map, refl, subst, sym}
+use Rattle.std.specs.Global.{Vec}
 use Rattle.path_verifiers.specs.Fingerprint.{fingerprint_of}
 use Rattle.path_verifiers.specs.ListVerifier.{Believes}
 use Rattle.path_verifiers.specs.declared.list_verifier.ListVerifier.{ListVerifier}
@@ -8,19 +9,22 @@ use Rattle.statements_facts.specs.declared.counts.Counts.{Counts}
 use Rattle.cli_failures.specs.Failures.{Holding}
 use Rattle.cli_failures.specs.declared.failure.Failure.{Failure}
 use Rattle.cli_failures.specs.declared.failure.Failure.TheVariants.{NoMemory}
-use Rattle.cli_operands.specs.Asked.{AcceptsJust}
+use Rattle.store_listing.specs.Listing.{seen_held_issuer, seen_listing}
+use Rattle.store_listing.specs.declared.held.Listing.{Listing}
+use Rattle.cli_listing.specs.ListingText.{IdsRise, listing_text}
+use Rattle.cli_operands.specs.Asked.{AcceptsJust, IsMomentOf}
 use Rattle.cli_session.specs.Believed.{BelievesJust, accepted_by}
 use Rattle.cli_session.specs.declared.believed.Believed.{Believed}
 use Rattle.cli_words.specs.PolicyTexts.{PolicyTexts}
 use Rattle.cli_words.specs.QueryTexts.{QueryTexts}
 use Rattle.cli_words.specs.SearchTexts.{SearchTexts}
 use Rattle.cli_steps.specs.Found.{FindsByTexts}
-use Rattle.cli_steps.specs.Keeping.{AnswersCleanly, AnswersWithVerdict, FindsCleanly, Keeping, Cleanly, Takes, TakesCleanly, taking, trying}
+use Rattle.cli_steps.specs.Keeping.{AnswersCleanly, AnswersWithLines, AnswersWithListing, AnswersWithVerdict, FindsCleanly, Keeping, Cleanly, Takes, TakesCleanly, taking, trying}
 use Rattle.cli_steps.specs.Passing.{AsksByWords, DeliversTo, PassesOn}
 use Rattle.cli_steps.specs.State.{believing, forgetting, keeping}
-use Rattle.cli_steps.specs.Steps.{BelievesMore, ChecksPath, ChecksPolicies, DeliversFile, FindsPath}
+use Rattle.cli_steps.specs.Steps.{BelievesMore, ChecksPath, ChecksPolicies, DeliversFile, FindsPath, ListsHeld}
 use Rattle.cli_steps.specs.Ways.{Steps}
-use Rattle.cli_steps.specs.declared.answer.SessionAnswer.TheVariants.{Believes as Told_more, Delivered, Told, ToldWithPolicies, Found, Failed}
+use Rattle.cli_steps.specs.declared.answer.SessionAnswer.TheVariants.{Believes as Told_more, Delivered, Told, ToldWithPolicies, Found, Listed, Failed}
 use Rattle.cli_steps.specs.declared.found.FoundPath.{FoundPath}
 use Rattle.cli_steps.specs.declared.policy_verdict.PolicyVerdict.{PolicyVerdict}
 use Rattle.cli_steps.specs.WithPolicies.{ChecksByTexts}
@@ -167,6 +171,35 @@ module _ {K : Type 0} (is_clean : K → Type 0) (keeps : K → Keeping) (old new
         record { listed = state.listed; believes = state.believes; keeps = done.0 },
         (inr ((asked, is), inl memory), refl),
       )
+
+-- ---- listings
+
+module _ {K : Type 0} (keeps : K → Keeping) (old new : K) (believed : Believed) (moment : Option (List ℕ)) where
+  pub listed : (at : Option ℤ) (text : Vec ℕ) → IsMomentOf moment at → AnswersWithLines (keeps old) (keeps new) at (Ok text)
+      → Steps believed (keeps old) believed (keeps new) (λ before after. ListsHeld moment before (Listed text) × (after ≡ before))
+  listed at text asked lists before is =
+      let done = lists before.kept is.keeps in (
+        before,
+        record { listed = is.listed; believes = is.believes; keeps = done.0 },
+        ((at, asked, done.1), refl),
+      )
+
+  pub not_listed : (at : Option ℤ) (failure : Failure) → IsMomentOf moment at → AnswersWithLines (keeps old) (keeps new) at (Err failure)
+      → Steps believed (keeps old) believed (keeps new) (λ before after. ListsHeld moment before (Failed failure) × (after ≡ before))
+  not_listed at failure asked lists before is =
+      let done = lists before.kept is.keeps in (
+        before,
+        record { listed = is.listed; believes = is.believes; keeps = done.0 },
+        (inr ((at, asked), done.1), refl),
+      )
+
+-- a keeper's listing, in lines
+pub in_lines : (old new : Keeping) (all : Listing) (at : Option ℤ) (result : Result (Vec ℕ) Failure) → AnswersWithListing old new (Ok all)
+    → IfOk result (λ text. IdsRise (map seen_held_issuer all.issuers.items) → text.items ≡ listing_text at (seen_listing all))
+    → IfErr result (λ failure. failure ≡ NoMemory) → AnswersWithLines old new at result
+in_lines old new all at (Ok text) lists lines fails kept keeps =
+    let done = lists kept keeps in (done.0, (seen_listing all, done.1.0, done.1.1, lines done.1.1.rise))
+in_lines old new all at (Err failure) lists lines fails kept keeps = ((lists kept keeps).0, inl fails)
 
 -- ---- fingerprints
 

@@ -13,15 +13,15 @@ use Rattle.cli_steps.specs.declared.policy_verdict.PolicyVerdict.{PolicyVerdict}
 use Rattle.cli_failures.specs.Report.{exit_status, told_line}
 use Rattle.cli_failures.specs.declared.failure.Failure.{Failure}
 use Rattle.cli_steps.specs.declared.answer.SessionAnswer.{SessionAnswer}
-use Rattle.cli_steps.specs.declared.answer.SessionAnswer.TheVariants.{Nothing, Believes, Forgets, Ends, Delivered, Told, ToldWithPolicies, Found, Prints, Failed, BadLine, LongLine}
+use Rattle.cli_steps.specs.declared.answer.SessionAnswer.TheVariants.{Nothing, Believes, Forgets, Ends, Delivered, Told, ToldWithPolicies, Found, Prints, Listed, Failed, BadLine, LongLine}
 
 -- how many lines a text has
 abbrev pub feeds_in : List ℕ → ℕ
 feeds_in text = length (filter (λ octet. octet == 10) text)
 
 -- `0 N`, and N lines
-abbrev pub prints_text : List ℕ → List ℕ
-prints_text text = codes "0 " ++ decimal (feeds_in text) ++ codes "\n" ++ text
+abbrev pub lines_text : List ℕ → List ℕ
+lines_text text = codes "0 " ++ decimal (feeds_in text) ++ codes "\n" ++ text
 
 -- `0 stored A kept B contradicted C`
 abbrev pub delivered_text : Counts → List ℕ
@@ -56,7 +56,8 @@ answer_text (Delivered counts) = delivered_text counts
 answer_text (Told verdict) = verdict_answer verdict
 answer_text (ToldWithPolicies told) = policy_answer told
 answer_text (Found found) = found_answer found
-answer_text (Prints text) = prints_text text.items
+answer_text (Prints text) = lines_text text.items
+answer_text (Listed text) = lines_text text.items
 answer_text (Failed failure) = failed_text failure
 answer_text BadLine = codes "5 bad line\n"
 answer_text LongLine = codes "5 line too long\n"

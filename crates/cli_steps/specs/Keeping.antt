@@ -1,5 +1,6 @@
 -- What a call makes of what a keeper holds.
-use Rattle.std.specs.Prelude.{◌≡◌, ◌⊎◌, List, [], ◌∷◌, Result, Ok, Err}
+use Rattle.std.specs.Global.{Vec}
+use Rattle.std.specs.Prelude.{◌≡◌, ◌⊎◌, ℕ, ℤ, List, [], ◌∷◌, Option, Result, Ok, Err}
 use Rattle.path.specs.Query.{Accepts, Query}
 use Rattle.path_issuers.specs.Search.{Search}
 use Rattle.relying_search.specs.Finding.{FindsHolding}
@@ -13,6 +14,10 @@ use Rattle.statements_facts.specs.Coming.{AreCounts, after_all}
 use Rattle.statements_facts.specs.Fact.{Fact}
 use Rattle.statements_facts.specs.Statement.{Holdings}
 use Rattle.statements_facts.specs.declared.counts.Counts.{Counts}
+use Rattle.cli_listing.specs.HeldText.{IsListingOf}
+use Rattle.store_listing.specs.Laws.{ListsOnce, ShowsHeld}
+use Rattle.store_listing.specs.Listing.{seen_listing}
+use Rattle.store_listing.specs.declared.held.Listing.{Listing}
 use Rattle.cli_failures.specs.declared.failure.Failure.{Failure}
 use Rattle.cli_failures.specs.declared.failure.Failure.TheVariants.{NoMemory, StoreFailed}
 use Rattle.cli_failures.specs.declared.failure.StoreRefusal.TheVariants as OfStore
@@ -74,6 +79,20 @@ abbrev pub AnswersWithFinding : Keeping → Keeping → Accepts → Search → F
 AnswersWithFinding old new accepts s budget (Ok finding) =
     (kept : Kept) → old kept → new kept × FindsHolding accepts s budget kept.held finding
 AnswersWithFinding old new accepts s budget (Err failure) =
+    (kept : Kept) → old kept → new kept × IsNotKept failure
+
+-- a listing that shows what is held, slot by slot, and nothing twice; or none; and nothing changed
+abbrev pub AnswersWithListing : Keeping → Keeping → Result Listing Failure → Type 0
+AnswersWithListing old new (Ok all) =
+    (kept : Kept) → old kept → new kept × ShowsHeld kept.held (seen_listing all) × ListsOnce (seen_listing all)
+AnswersWithListing old new (Err failure) =
+    (kept : Kept) → old kept → new kept × IsNotKept failure
+
+-- the same in lines
+abbrev pub AnswersWithLines : Keeping → Keeping → Option ℤ → Result (Vec ℕ) Failure → Type 0
+AnswersWithLines old new at (Ok text) =
+    (kept : Kept) → old kept → new kept × IsListingOf at kept.held text.items
+AnswersWithLines old new at (Err failure) =
     (kept : Kept) → old kept → new kept × IsNotKept failure
 
 -- a keeper whose disk has returned what was written had such a disk before, and did this

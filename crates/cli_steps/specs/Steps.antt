@@ -1,5 +1,5 @@
 -- What a request makes of a session's party, and how it is answered.
-use Rattle.std.specs.Prelude.{◌≡◌, ◌⊎◌, ℕ, Bool, List, [], ◌∷◌}
+use Rattle.std.specs.Prelude.{◌≡◌, ◌⊎◌, ℕ, ℤ, Bool, List, [], ◌∷◌, Option}
 use Rattle.path.specs.Query.{Accepts, Query}
 use Rattle.relying_search.specs.Finding.{FindsHolding}
 use Rattle.relying_search.specs.declared.finding.Finding.{Finding}
@@ -15,9 +15,10 @@ use Rattle.statements_facts.specs.Fact.{Fact}
 use Rattle.cli_failures.specs.Failures.{Holding}
 use Rattle.cli_failures.specs.declared.failure.Failure.{Failure}
 use Rattle.cli_failures.specs.declared.failure.Failure.TheVariants.{NoMemory}
-use Rattle.cli_operands.specs.Asked.{AcceptsJust, Asks, IsFailureOfQuery}
+use Rattle.cli_listing.specs.HeldText.{IsListingOf}
+use Rattle.cli_operands.specs.Asked.{AcceptsJust, Asks, IsBadMoment, IsFailureOfQuery, IsMomentOf}
 use Rattle.cli_operands.specs.InOrder.{FailsFirst}
-use Rattle.cli_requests.specs.Requests.{Request, SearchFiles, if_given, nothing, believe, deliver, check, check_with_policies, find, prints, search_prints, forget, quit}
+use Rattle.cli_requests.specs.Requests.{Request, SearchFiles, if_given, nothing, believe, deliver, check, check_with_policies, find, prints, search_prints, list, forget, quit}
 use Rattle.cli_showing.specs.Shown.{ArePrintsUnder, IsFailureOfPrints}
 use Rattle.cli_words.specs.PolicyTexts.{PolicyTexts}
 use Rattle.cli_words.specs.QueryTexts.{QueryTexts}
@@ -29,7 +30,7 @@ use Rattle.cli_steps.specs.Passing.{HoldsStatement, IsRefusedFrom}
 use Rattle.cli_steps.specs.SearchPrints.{AreSearchPrints, IsFailureOfSearchPrints}
 use Rattle.cli_steps.specs.State.{SessionState, believing, forgetting, keeping}
 use Rattle.cli_steps.specs.declared.answer.SessionAnswer.{SessionAnswer}
-use Rattle.cli_steps.specs.declared.answer.SessionAnswer.TheVariants.{Nothing, Believes, Forgets, Ends, Delivered, Told, ToldWithPolicies, Found, Prints, Failed}
+use Rattle.cli_steps.specs.declared.answer.SessionAnswer.TheVariants.{Nothing, Believes, Forgets, Ends, Delivered, Told, ToldWithPolicies, Found, Prints, Listed, Failed}
 
 -- ---- deliveries
 
@@ -101,6 +102,18 @@ FindsPath holds texts state (Found answer) =
 FindsPath holds texts state (Failed failure) = IsFailureOfFinding holds texts failure
 FindsPath holds texts state answer = ⊥
 
+-- ---- listings
+
+-- What is wrong with a request for a listing, the first of it: its moment, and then the keeper.
+abbrev pub IsFailureOfListing : Option (List ℕ) → Failure → Type 0
+IsFailureOfListing moment = FailsFirst (IsBadMoment moment) ((at : Option ℤ) × IsMomentOf moment at) IsNotKept
+
+-- the lines of what is held, and whether each statement is in force at the moment, if one is named; or a failure
+abbrev pub ListsHeld : Option (List ℕ) → SessionState → SessionAnswer → Type 0
+ListsHeld moment state (Listed text) = (at : Option ℤ) × IsMomentOf moment at × IsListingOf at state.kept.held text.items
+ListsHeld moment state (Failed failure) = IsFailureOfListing moment failure
+ListsHeld moment state answer = ⊥
+
 -- ---- others
 
 -- one fingerprint more is believed, or memory ran out
@@ -139,5 +152,6 @@ IsStep holds (prints kind with_parts issuer file) old new answer =
     ShowsPrints holds kind with_parts issuer file answer × (new ≡ old)
 IsStep holds (search_prints with_parts files) old new answer =
     ShowsSearchPrints holds with_parts files answer × (new ≡ old)
+IsStep holds (list moment) old new answer = ListsHeld moment old answer × (new ≡ old)
 IsStep holds forget old new answer = (answer ≡ Forgets) × (new ≡ forgetting old)
 IsStep holds quit old new answer = (answer ≡ Ends) × (new ≡ old)

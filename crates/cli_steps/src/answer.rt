@@ -1,7 +1,7 @@
 //! Answers, and the lines that say them.
 ghost use Rattle.std.specs.Prelude.{◌≡◌, OnOk};
 ghost use Rattle.std.specs.Io.KnownBytes.{Appends};
-ghost use Rattle.cli_steps.specs.AnswerText.{answer_text, delivered_text, failed_text, feeds_in, found_answer, policy_answer, prints_text, verdict_answer};
+ghost use Rattle.cli_steps.specs.AnswerText.{answer_text, delivered_text, failed_text, feeds_in, found_answer, lines_text, policy_answer, verdict_answer};
 
 use crate::found::FoundPath;
 use crate::policy_verdict::PolicyVerdict;
@@ -33,6 +33,8 @@ pub enum SessionAnswer<'a> {
     Found(FoundPath<'a>),
     /// The lines of what a verifier is asked.
     Prints(Vec<u8>),
+    /// The lines of what is held.
+    Listed(Vec<u8>),
     /// What failed.
     Failed(Failure<'a>),
     /// The line is no request.
@@ -48,9 +50,9 @@ fn feeds_in(text: &[u8]) -> usize
     text.iter().filter(|octet| **octet == b'\n').count()
 }
 
-fn write_prints<W: Write>(text: &[u8], out: &mut W) -> io::Result<()>
+fn write_lines<W: Write>(text: &[u8], out: &mut W) -> io::Result<()>
     ensures { OnOk result (Appends (W.contents out.old) (W.contents out.new)
-        (prints_text text.now)) }
+        (lines_text text.now)) }
 {
     writeln!(out, "0 {}", feeds_in(text))?;
     out.write_all(text)
@@ -115,7 +117,8 @@ impl SessionAnswer<'_> {
             SessionAnswer::Told(verdict) => write_verdict(*verdict, out),
             SessionAnswer::ToldWithPolicies(told) => write_policy_verdict(told, out),
             SessionAnswer::Found(found) => write_found(found, out),
-            SessionAnswer::Prints(text) => write_prints(text.as_slice(), out),
+            SessionAnswer::Prints(text) => write_lines(text.as_slice(), out),
+            SessionAnswer::Listed(text) => write_lines(text.as_slice(), out),
             SessionAnswer::Failed(failure) => write_failure(failure, out),
             SessionAnswer::BadLine => out.write_all(b"5 bad line\n"),
             SessionAnswer::LongLine => out.write_all(b"5 line too long\n"),

@@ -3,7 +3,7 @@ ghost use Rattle.std.specs.Prelude.{◌≡◌, false, IfOk, OnOk};
 ghost use Rattle.statements_facts.specs.Fact.{facts_in};
 ghost use Rattle.path.specs.Reading.{seen_query};
 ghost use Rattle.path_issuers.specs.View.{seen_search};
-ghost use Rattle.cli_steps.specs.Keeping.{AnswersWithFinding, AnswersWithVerdict, IsInvalidOrFrom, IsNotFoundOrFrom, Keeps, Takes};
+ghost use Rattle.cli_steps.specs.Keeping.{AnswersWithFinding, AnswersWithListing, AnswersWithVerdict, IsInvalidOrFrom, IsNotFoundOrFrom, Keeps, Takes};
 
 use cli_failures::Failure;
 use path::{Query, Verifier};
@@ -12,6 +12,7 @@ use relying_agreement::Verdict;
 use relying_search::{Finding, FindingBudget};
 use statements_facts::{Counts, Facts};
 use std::alloc::Global;
+use store_listing::Listing;
 
 /// Who keeps the newest statement of each slot, and tells verdicts by them: a store, or what stands for one in a test.
 ///
@@ -62,6 +63,13 @@ pub trait Keeper {
         ensures open { is_clean self.new → IfOk result (IsNotFoundOrFrom (is_open self.old)) }
         ensures finds { is_clean self.new → AnswersWithFinding (keeps self.old) (keeps self.new)
             (V.accepts verifier.now) (seen_search search.now) budget result };
+
+    /// What it holds, listed. A listing comes from an open connection.
+    fn list<'a>(&mut self, alloc: Global) -> Result<Listing, Failure<'a>>
+        ensures clean { is_clean self.new → is_clean self.old }
+        ensures open { is_clean self.new → OnOk result (is_open self.old) }
+        ensures lists { is_clean self.new
+            → AnswersWithListing (keeps self.old) (keeps self.new) result };
 
     /// Whether it may still answer. It does not once its connection is shut.
     fn may_answer(&mut self) -> bool

@@ -11,6 +11,7 @@ use crate::checking::check;
 use crate::delivering::deliver;
 use crate::finding::find;
 use crate::keeper::Keeper;
+use crate::listing::list;
 use crate::party::Party;
 use crate::policy_checking::check_with_policies;
 use crate::printing::{show_prints, show_search_prints};
@@ -50,6 +51,7 @@ pub fn step<'a, K: Keeper, S: Source>(
         Request::SearchPrints { with_parts, files } => {
             show_search_prints(&operands, alloc, with_parts, files)
         }
+        Request::List(moment) => list(party, alloc, moment),
         Request::Forget => {
             forget(party);
             SessionAnswer::Forgets

@@ -28,6 +28,11 @@ use Rattle.statements_facts.specs.Statement.{Holdings}
 use Rattle.statements_facts.specs.declared.counts.Counts.{Counts}
 use Rattle.statements_facts.specs.declared.fact.Facts.{Facts}
 use Rattle.store.specs.Adopts.{StaysIfOpen}
+use Rattle.store_adoption.specs.Creates.{IsSettled}
+use Rattle.store_listing.specs.Laws.{ListingShowsHeld, ShowsStore}
+use Rattle.store_listing.specs.Listing.{IsListing}
+use Rattle.store_listing.specs.Reads.{ReadsStore}
+use Rattle.store_listing.specs.declared.held.Listing.{Listing}
 use Rattle.store_maps.specs.Held.{IsStoreOf}
 use Rattle.store_sql.specs.Fault.{fault_from}
 use Rattle.store_sql.specs.Statements.{CommitsNothing}
@@ -35,7 +40,7 @@ use Rattle.store_sql.specs.declared.fault.StoreFault.{StoreFault}
 use Rattle.store_sql.specs.declared.fault.StoreFault.TheVariants.{Store, Schema, Memory}
 use Rattle.store_taking.specs.Delivery.{AllOrNothing, PutsFacts}
 use Rattle.cli_failures.specs.declared.failure.Failure.{Failure}
-use Rattle.cli_steps.specs.Keeping.{AnswersWithFinding, AnswersWithVerdict, IsInvalidOrFrom, IsNotFoundOrFrom, IsNotKept, Keeps, Kept, Takes, trying}
+use Rattle.cli_steps.specs.Keeping.{AnswersWithFinding, AnswersWithListing, AnswersWithVerdict, IsInvalidOrFrom, IsNotFoundOrFrom, IsNotKept, Keeps, Kept, Takes, trying}
 use Rattle.cli_store.specs.Standing.{LeavesOneOf, told_of}
 use Rattle.cli_store.specs.Stored.{IsToldOverOpen, StaysIfClean, keeping_in}
 
@@ -185,6 +190,39 @@ module _ (old mid new : State) (stays : StaysIfClean mid new) (survives : Commit
       | inr it ↦ formed fault told kept looks clean (keeps.0 ((looks (clean_before clean)).0.was_open ((stays clean).was_open it.1))) it.0
     ],
   )
+
+-- ---- a listing
+
+module _ (old mid new : State) (stays : StaysIfClean mid new) (survives : CommitsNothing mid new) (before_survives : CommitsNothing old mid) where
+  -- it was read over a connection that is open still
+  pub lists : (all : Listing) → IsTrue new.is_open → (HasCleanDisk mid → ReadsStore {A = Listing} old mid IsListing (Ok all)) → (HasCleanDisk mid → ShowsStore old.now all) → HasCleanDisk new
+      → IsTrue old.is_open × AnswersWithListing (keeping_in old) (keeping_in new) (Ok all)
+  lists all is_open reads shows clean =
+      let before = was_clean mid new survives clean in
+      let same = unchanged old mid (reads before).0 in
+      let was_open = same.was_open ((stays clean).was_open is_open) in (
+        was_open,
+        λ kept keeps. (
+          kept_same mid new stays survives clean kept (kept_same old mid (λ c. same) before_survives before kept keeps),
+          shows before kept.held (keeps.0 was_open),
+        ),
+      )
+
+  -- it was read, and then the connection refused
+  pub lists_none : (all : Listing) (told : Failure) → (HasCleanDisk mid → ReadsStore {A = Listing} old mid IsListing (Ok all)) → IsNotKept told → HasCleanDisk new
+      → AnswersWithListing (keeping_in old) (keeping_in new) (Err told)
+  lists_none all told reads is clean kept keeps =
+      let before = was_clean mid new survives clean in
+      (kept_same mid new stays survives clean kept (kept_same old mid (λ c. unchanged old mid (reads before).0) before_survives before kept keeps), is)
+
+-- a listing that was not read is for a fault of the tables only where they are no store's
+pub not_read : (old mid : State) (fault : StoreFault) → ListingShowsHeld → IsSettled old → IsSettled mid → (HasCleanDisk mid → ReadsStore {A = Listing} old mid IsListing (Err fault)) → HasCleanDisk mid
+    → StaysIfOpen old mid × IsFormed old (OfStore fault)
+not_read old mid fault shows settled after reads clean =
+    let it = reads clean in (
+      record { was_open = it.0.was_open; now_is = λ is_open. after is_open ∙ it.0.committed is_open ∙ sym (settled (it.0.was_open is_open)) },
+      λ schema held stands. let found = shows old.now held stands in it.1 schema found.0 found.1,
+    )
 
 -- ---- a verdict
 

@@ -7,7 +7,7 @@ ghost use Rattle.path.specs.Reading.{seen_query};
 ghost use Rattle.path_issuers.specs.View.{seen_search};
 ghost use Rattle.relying_verdicts.specs.Asking.{IsInvalidOrOpen};
 ghost use Rattle.store_sql.specs.Statements.{CommitsNothing};
-ghost use Rattle.cli_steps.specs.Keeping.{AnswersWithFinding, AnswersWithVerdict, IsNotFoundOrFrom, IsNotKept, Takes};
+ghost use Rattle.cli_steps.specs.Keeping.{AnswersWithFinding, AnswersWithListing, AnswersWithVerdict, IsNotFoundOrFrom, IsNotKept, Takes};
 ghost use Rattle.cli_store.specs.Stored.{IsToldOverOpen, StaysIfClean, keeping_in};
 
 use crate::stores::failed;
@@ -22,6 +22,7 @@ use sqlite_disk::Disk;
 use statements_facts::{Counts, Facts};
 use std::alloc::Global;
 use store::Store;
+use store_listing::{Listing, held_laws, read_listing};
 use store_sql::StoreFault;
 
 /// A store that keeps a session's statements.
@@ -164,6 +165,26 @@ fn search_in<'a, D: Disk + Drop, V: Verifier>(
     }
 }
 
+// What the store holds, listed by an open connection.
+fn list_in<'a, D: Disk + Drop>(store: &mut Store<D>, alloc: Global) -> Result<Listing, Failure<'a>>
+    ensures clean { HasCleanDisk (file_state store.new.conn)
+        → HasCleanDisk (file_state store.old.conn) }
+    ensures open { HasCleanDisk (file_state store.new.conn)
+        → OnOk result (IsTrue (file_state store.old.conn).is_open) }
+    ensures lists { HasCleanDisk (file_state store.new.conn)
+        → AnswersWithListing (keeping_in (file_state store.old.conn))
+        (keeping_in (file_state store.new.conn)) result }
+{
+    held_laws();
+    match read_listing(alloc, &mut store.conn) {
+        Ok(all) => match probe(store) {
+            Ok(()) => Ok(all),
+            Err(error) => Err(refused(error)),
+        },
+        Err(fault) => Err(failure_of(store, Fault::Store(fault))),
+    }
+}
+
 impl<D: Disk + Drop> Keeper for StoreKeeper<D> {
     ghost use Rattle.std.specs.Prelude.{IsTrue};
     ghost use Rattle.sqlite.specs.Files.{file_state};
@@ -197,6 +218,10 @@ impl<D: Disk + Drop> Keeper for StoreKeeper<D> {
         budget: FindingBudget,
     ) -> Result<Finding, Failure<'a>> {
         search_in(&mut self.store, alloc, verifier, search, budget)
+    }
+
+    fn list<'a>(&mut self, alloc: Global) -> Result<Listing, Failure<'a>> {
+        list_in(&mut self.store, alloc)
     }
 
     fn may_answer(&mut self) -> bool {

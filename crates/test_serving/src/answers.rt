@@ -78,6 +78,9 @@ const ROWS: &[(&str, &str)] = &[
         "prints crl hex:0500 b\n",
         "4 hex:0500: refused 22 Layout at 0\n",
     ),
+    ("list\nlist 20250615000000Z\n", "0 0\n0 0\n"),
+    ("list 20251301000000Z\n", "5 bad time\n"),
+    ("list a b\n", "5 bad line\n"),
 ];
 
 /// What a session writes that reads these lines, over a keeper that answers.

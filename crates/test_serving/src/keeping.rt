@@ -12,6 +12,7 @@ use relying_search::{Finding, FindingBudget};
 use statements_facts::{Counts, Facts, Profile};
 use std::alloc::Global;
 use std::io::{Read, Write};
+use store_listing::Listing;
 
 /// A keeper that answers so, or refuses.
 #[derive(Clone, Copy)]
@@ -61,6 +62,17 @@ impl Keeper for Told {
         };
         match self.verdict {
             Some(verdict) => Ok(Finding::Found(path, verdict)),
+            None => Err(REFUSAL),
+        }
+    }
+
+    fn list<'a>(&mut self, alloc: Global) -> Result<Listing, Failure<'a>> {
+        match self.verdict {
+            Some(_) => Ok(Listing {
+                issuers: Vec::new(alloc),
+                lists: Vec::new(alloc),
+                singles: Vec::new(alloc),
+            }),
             None => Err(REFUSAL),
         }
     }

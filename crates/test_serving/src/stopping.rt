@@ -186,6 +186,9 @@ fn a_keeper_answers_or_refuses(rt: HostRuntime) -> Result<(), Fail> {
     is_said(&rt, alloc, lines, refusing(true), answers, End::Finished);
     let answers = "0 believed\n6 store fault 71\n";
     is_said(&rt, alloc, lines, refusing(false), answers, End::Shut);
+    let listing = b"list\nforget\n";
+    let answers = "6 store fault 71\n";
+    is_said(&rt, alloc, listing, refusing(false), answers, End::Shut);
     Ok(())
 }
 

@@ -45,6 +45,8 @@ const BAD: &[&str] = &[
     "prints parts search",
     "prints cert a",
     "prints crt a b",
+    "list ",
+    "list a b",
     "believe",
     "believe 00",
 ];
@@ -111,6 +113,9 @@ fn reads_requests(rt: HostRuntime) -> Result<(), Fail> {
                 file: "b"
             }
     );
+    assert!(rt; request_of(alloc, b"list")? == Request::List(None));
+    let moment = request_of(alloc, b"list 20250615000000Z")?;
+    assert!(rt; moment == Request::List(Some("20250615000000Z")));
     assert!(rt; request_of(alloc, b"forget")? == Request::Forget);
     assert!(rt; request_of(alloc, b"quit")? == Request::Quit);
     Ok(())

@@ -7,7 +7,7 @@ pub returns-in-Ok-clause-listed : goal.returns-in-Ok-clause-listed
 returns-in-Ok-clause-listed g c =
     listed (g.S.Stores.places c.args.source.now) c.args.path.now (file_state c.args.store.conn) (file_state c.read_listing-all.new.conn)
     c.close_store.ensures.leaves c.close_store.ensures.lasts (record { opened = c.requires.open; settled = c.requires.settled; durable = c.requires.durable })
-    c.args.at c.in-Ok.all c.lines_of.result c.in-Ok.ensures.survives c.in-Ok.ensures.reads c.in-Ok.ensures.shows c.lines_of.ensures.lines
+    c.args.at c.in-Ok.all c.listing_lines.result c.in-Ok.ensures.survives c.in-Ok.ensures.reads c.in-Ok.ensures.shows c.listing_lines.ensures.lines
 
 pub returns-in-Err-clause-fails : goal.returns-in-Err-clause-fails
 returns-in-Err-clause-fails g c =
@@ -19,4 +19,4 @@ pub returns-in-Ok-clause-fails : goal.returns-in-Ok-clause-fails
 returns-in-Ok-clause-fails g c =
     without_memory (g.S.Stores.places c.args.source.now) c.args.path.now (file_state c.args.store.conn) (file_state c.read_listing-all.new.conn)
     c.close_store.ensures.leaves c.close_store.ensures.lasts (record { opened = c.requires.open; settled = c.requires.settled; durable = c.requires.durable })
-    c.in-Ok.all c.lines_of.result c.in-Ok.ensures.survives c.in-Ok.ensures.reads c.lines_of.ensures.fails
+    c.in-Ok.all c.listing_lines.result c.in-Ok.ensures.survives c.in-Ok.ensures.reads c.listing_lines.ensures.fails
