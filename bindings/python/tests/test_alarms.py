@@ -267,7 +267,7 @@ class Made(unittest.TestCase):
         self.assertEqual((found.verdict, found.why_not), (Verdict.NOT_FOUND, wide.why_not))
         self.assertNotEqual(wide.why_not, stated.why_not)
 
-    @unittest.skip("the program has no `list` in a session yet")
+    @unittest.skipUnless(PROGRAM, "the program is missing")
     def test_lists_that_have_lapsed(self):
         good = self.made.certificate("good", "Root", FOR_SERVER)
         store, later = self.file("lapsed"), datetime.datetime.now(datetime.timezone.utc) + datetime.timedelta(days=10)

@@ -444,7 +444,6 @@ class ForAParty(WithWeb):
         asked = {f"{self.web.url}/{name}.crl" for name in ("root", "issuer")}
         return [one.outcome.value for one in report.fetched if one.url in asked], report.result.verdict
 
-    @unittest.skip("the program has no `list` in a session yet")
     def test_what_was_noted_counts_only_for_a_store_that_holds_it(self):
         """As of a store that was made anew or restored, which holds nothing, or an older list."""
         self.assertEqual(self.fetched(), (["taken", "taken"], Verdict.VALID))
@@ -459,7 +458,6 @@ class ForAParty(WithWeb):
             fetcher = Fetcher(party, self.client, memory=self.fetcher.memory)
             self.assertEqual(self.fetched(fetcher), (["unchanged", "taken"], Verdict.REVOKED))
 
-    @unittest.skip("the program has no `list` in a session yet")
     def test_a_list_is_asked_for_whole_at_times(self):
         """Somebody on the way sent an older list under the name of the newest."""
         self.web.has("/issuer.crl", self.made.revocation_list("Issuer"), ETag='"issuer 2"')

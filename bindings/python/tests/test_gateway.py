@@ -103,7 +103,6 @@ class OverTheProgram(Calls):
         self.ends(Ends.REJECTED, f"revoked (key compromise): {leaf}", SENT)
         self.ends(Ends.REJECTED, f"revoked (key compromise): {leaf}", SENT, "--accept-unknown")
 
-    @unittest.skip("the program has no `list` in a session yet")
     def test_a_list_that_has_ended_and_revoked_keeps_the_door_shut(self):
         self.serve()
         later, leaf = ["--at", "2027-01-01T00:00:00Z", "--accept-unknown"], str(Certificate.from_der(LEAF).identity)

@@ -560,6 +560,9 @@ def value(octets):
 # Each request of a session (docs/REFERENCE.md), and its answer by the examples' authority at AT, with the lists of both issuers.
 PATH, ASKED = " ".join(map(value, (ROOT, MIDDLE, LEAF))), "20261201000000Z"
 FOUND = (*(f"{number} {value(one)} 1" for number, one in enumerate((ROOT, MIDDLE, LEAF))), "valid")
+# (the digests of the keys are OpenSSL's)
+HELD = tuple(f"crl {key} all number 01 from 20261123182708Z until 20261223182708Z entries 0" for key in (
+    "23d4dac632d0cdc3a4810d7dd54b5ee93f5bfa45f207667f54e99af01503f50a", "3373400ac66dafafb2f1e25cf5e2a240815a3e1c1da1fe1a26e439d67172ef0b"))
 DOCUMENTED = (
     ("believe " + "00" * 32, Answer(0, "believed")),
     (f"deliver {value(ROOT)} {value(ROOT_LIST)}", Answer(0, "stored 0 kept 1 contradicted 0")),
@@ -575,7 +578,8 @@ DOCUMENTED = (
     (f"prints cert {value(ROOT)} {value(MIDDLE)}", Answer(0, "1", (f"{next(iter(GOOD_PRINTS.values())).hex()} certificate issuer",))),
     (f"prints search {PATH}", None), (f"prints parts search {value(ROOT)} {value(MIDDLE)}", None),
     (f"prints parts crl {value(ROOT)} {value(ROOT_LIST)}", None), (f"prints ocsp {value(MIDDLE)} {value(RESPONSE)}", None),
-    ("list", Answer(5, "bad line")), (f"list {ASKED}", Answer(5, "bad line")),
+    ("list", Answer(0, "2", HELD)), (f"list {ASKED}", Answer(0, "2", tuple(f"{one} current" for one in HELD))),
+    ("list soon", Answer(5, "bad time")), (f"list {ASKED} {ASKED}", Answer(5, "bad line")),
     ("forget", Answer(0, "forgotten")), ("lists", Answer(5, "bad line")), (f"check soon {PATH}", Answer(5, "bad time")),
 )
 # With policies of its own: the example for them.

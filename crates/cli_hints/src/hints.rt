@@ -129,14 +129,13 @@ fn hint_about_stores<W: Write>(
 
 // Another database, or a store that was changed.
 fn hint_about_schema<W: Write>(profile: Profile, writer: &mut W) -> io::Result<()> {
-    let other = match profile {
-        Profile::Stated =>
-            "of the wide profile, which '--profile wide' in front of the command opens",
-        Profile::Wide => "of the stated profile, which opens without '--profile wide'",
+    let (asked, other) = match profile {
+        Profile::Stated => ("stated", "wide"),
+        Profile::Wide => ("wide", "stated"),
     };
     writeln!(
         writer,
-        "the store is one {other}; or the file is that of another program, or was changed by one: 'x509check explain 72'"
+        "no store of the profile '{asked}': --profile {other} in front of the command opens one of the other, or the file is that of another program, or was changed by one: 'x509check explain 72'"
     )
 }
 
