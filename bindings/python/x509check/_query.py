@@ -13,7 +13,7 @@ from ._certificates import Certificate, origin_of
 from ._faults import MEMORY, Fault, Text, refusal
 from ._library import (
     REFUSED, AskedAnswer, DiagnosisAnswer, FindingAnswer, LimitFields, ObstacleFields, Place, PoliciesAnswer, PolicyInputFields, QueryFields,
-    QuestionFields, Refusal, SearchFields, TextFields, VerdictAnswer, library, text_array, text_fields,
+    QuestionFields, Refusal, SearchFields, VerdictAnswer, library, text_array, text_fields,
 )
 from ._names import coarse_name
 from ._pem import Loaded

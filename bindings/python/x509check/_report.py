@@ -9,7 +9,7 @@ from ._alarms import Unjudged
 from ._arguments import PURPOSES, Moment, Value, der_of, dotted_purpose, listed, seconds_of
 from ._certificates import Certificate
 from ._drawn import NOT_ASKED, SIGNATURES, class_of, cut, middle, moment_text, path_picture, role, stretch_at, time_picture, verdict_text
-from ._facts import MOST_OTHERS, MOST_REFUSED, MOST_STATEMENTS, Asked, Card, Facts, OverTime, Refused, Said, Statement, Stretch, facts_of
+from ._facts import MOST_OTHERS, MOST_REFUSED, MOST_STATEMENTS, Asked, Card, Facts, Refused, Said, Statement, Stretch, facts_of
 from ._markup import Child, Element, add, page, tag
 from ._faults import Text
 from ._names import Identity, name_from_shown, name_text
