@@ -6,6 +6,8 @@ import subprocess
 import threading
 import time
 
+from x509check import _der
+
 CONFIG = """
 [ca]
 default_ca = it
@@ -75,15 +77,36 @@ class Authority:
                      f"{name}.crl")
         return self.openssl("crl", "-in", f"{name}.crl", "-outform", "DER")
 
-    def response(self, request, issuer, index):
-        """The DER of the response to a request, by an index of certificates."""
+    def response(self, request, issuer, index, delegate=None, digest="sha256"):
+        """The DER of the response to a request, by an index of certificates; with the certificate of a delegate, if it signs."""
+        signer = delegate or issuer
         with open(self.path("request.ocsp"), "wb") as file:
             file.write(request)
         self.write("responder.index", index)
-        self.openssl("ocsp", "-index", "responder.index", "-rsigner", f"{issuer}.pem", "-rkey", self.key(issuer), "-CA", f"{issuer}.pem",
-                     "-reqin", "request.ocsp", "-respout", "response.ocsp", "-ndays", "2", "-resp_no_certs")
+        self.openssl("ocsp", "-index", "responder.index", "-rsigner", f"{signer}.pem", "-rkey", self.key(signer), "-CA", f"{issuer}.pem",
+                     "-reqin", "request.ocsp", "-respout", "response.ocsp", "-ndays", "2", "-rmd", digest,
+                     *(["-resp_no_certs"] if delegate is None else []))
         with open(self.path("response.ocsp"), "rb") as file:
             return file.read()
+
+    def joined(self, first, second, issuer):
+        """The DER of a response that has the single responses of two, of which the second is of the first one's time."""
+        data, algorithm, *_ = (_der.value(basic_of(first)).members())
+        others = _der.value(basic_of(second)).members()[0].members()
+        parts = [_der.encoded(_der.SEQUENCE, bytes(one.contents), bytes(other.contents)) if one.identifier == _der.SEQUENCE else bytes(one.whole)
+                 for one, other in zip(data.members(), others)]
+        signed = _der.encoded(_der.SEQUENCE, *parts)
+        with open(self.path("signed"), "wb") as file:
+            file.write(signed)
+        signature = self.openssl("dgst", "-sha256", "-sign", self.key(issuer), "signed")
+        basic = _der.encoded(_der.SEQUENCE, signed, bytes(algorithm.whole), _der.encoded(_der.BIT_STRING, b"\0" + signature))
+        kind = _der.encoded(_der.OBJECT_IDENTIFIER, _der.contents_of("1.3.6.1.5.5.7.48.1.1"))
+        return _der.encoded(_der.SEQUENCE, b"\x0a\x01\0", _der.encoded(0xA0, _der.encoded(_der.SEQUENCE, kind, _der.encoded(0x04, basic))))
+
+
+def basic_of(response):
+    """The DER of the BasicOCSPResponse in a response."""
+    return bytes(_der.value(response).members()[1].only_member().members()[1].contents)
 
 
 class Handler(http.server.BaseHTTPRequestHandler):

@@ -8,6 +8,7 @@ import shutil
 import subprocess
 import sys
 import tempfile
+import time
 import unittest
 from unittest import mock
 
@@ -16,8 +17,9 @@ from x509check import (
     Certificate, Contradicted, Contradiction, Judgement, Limits, Party, Profile, Reason, Result, RevocationReason, Unjudged, Verdict, WhyNot,
 )
 from x509check import _der, _ocsp, _query, _standing
+from x509check._contradictions import would_revoke
 from x509check._held import Listing
-from x509check._statement_times import response_times
+from x509check._statement_times import singles_in
 
 from . import authority
 from .authority import DECEMBER, LEAF, MIDDLE, MIDDLE_LIST, RESPONSE, REVOKING_LIST, ROOT, ROOT_LIST
@@ -161,7 +163,7 @@ class Made(unittest.TestCase):
             try:
                 found.add(call().verdict)
             except Contradiction as cause:
-                self.assertEqual(cause.result.verdict, Verdict.REVOKED)
+                self.assertIn(getattr(cause.result, "verdict", None), (Verdict.REVOKED, None))
                 found.add("contradict")
         one, = found
         return one
@@ -183,22 +185,37 @@ class Made(unittest.TestCase):
         for _ in range(20):
             clean, revoking = (self.made.response(request, "Root", text) for text in (
                 "V" + index.format(""), "R" + index.format("261101000000Z,keyCompromise")))
-            if response_times(clean) == response_times(revoking):
+            if [it.times for it in singles_in(clean)] == [it.times for it in singles_in(revoking)]:
                 break
         self.assertEqual(self.contradict([clean, revoking]), "contradict")
         self.assertEqual(self.contradict([revoking, clean]), Verdict.REVOKED)
         self.assertEqual(self.contradict([clean]), Verdict.VALID)
+        # The same inside of one response, and what is newer than that.
+        both, other_way = self.made.joined(clean, revoking, "Root"), self.made.joined(revoking, clean, "Root")
+        self.assertEqual((self.contradict([both]), self.contradict([other_way])), ("contradict", Verdict.REVOKED))
+        self.assertTrue(would_revoke(both, self.root, [self.leaf], "now"))
+        self.assertFalse(would_revoke(clean, self.root, [self.leaf], "now"))
+        time.sleep(1.1)
+        newer = self.made.response(request, "Root", "V" + index.format(""))
+        self.assertEqual(self.contradict([both, newer]), Verdict.VALID)
 
     def test_too_many_that_contradict_each_other(self):
-        lists = [b"%d" % number for number in range(20)]
+        lists = [b"%d \x02\x01\x05" % number for number in range(20)]
         with mock.patch.object(_standing, "_keys", return_value=[("list", 1)]):
-            rivals = _standing.Rivals(lists, set())
+            rivals = _standing.Rivals(lists, {b"\x05"})
             good = _standing.Stands(_standing.Standing.GOOD, frozenset([0]))
             with self.assertRaises(ValueError):
                 list(rivals.orders([good] * 20))
-            orders = list(_standing.Rivals(lists[:16], set()).orders([good] * 16))
+            self.assertEqual(list(_standing.Rivals(lists, {b"\x06"}).orders([good] * 20)), [], "none of them revokes")
+            orders = list(_standing.Rivals(lists[:16], {b"\x05"}).orders([good] * 16))
             self.assertEqual(sorted(order[0] for order in orders), list(range(1, 16)))
             self.assertTrue(all(sorted(order) == list(range(16)) for order in orders))
+
+    def test_a_statement_that_would_revoke_where_policies_are_asked_for(self):
+        policies = "certificatePolicies=1.2.3.4\npolicyConstraints=critical,requireExplicitPolicy:0\n"
+        middle = self.made.certificate("Policies", "Root", FOR_AUTHORITY + policies)
+        for revoked, wanted in (([self.made.serial], True), ([], False)):
+            self.assertIs(would_revoke(self.made.revocation_list("Root", revoked=revoked), self.root, [middle], "now"), wanted)
 
     def test_reports_show_alarms(self):
         if PROGRAM is None:

@@ -20,7 +20,7 @@ from x509check import Certificate, Party, Result, Verdict
 
 from . import authority
 from .authority import GOOD_PRINTS, LEAF, MIDDLE, MIDDLE_LIST, REVOKING_LIST, ROOT, ROOT_LIST
-from .fetch_authority import FOR_SERVER, Authority
+from .fetch_authority import FOR_AUTHORITY, FOR_SERVER, Authority
 from .test_loading import KEY, pem
 from .test_party import AT, PROGRAM, InFolder
 from .test_party_server import Served
@@ -124,8 +124,20 @@ class OverTheProgram(Calls):
             self.ends(Ends.VALID, "valid: ", sent, *words, anchors=anchor)
             self.assertEqual(str(party.deliver(root, second)), "stored 0 kept 0 contradicted 1")
             self.ends(Ends.TEMPFAIL, "ALARM: ", sent, *words, anchors=anchor, holds="contradicted: ")
+            # Also below another certificate of the same issuer, which a peer may send, and if an operand holds several.
+            made.certificate("Middle", "Root", FOR_AUTHORITY)
+            below = made.certificate("Below", "Middle", FOR_SERVER)
+            old, renewed = made.der("Middle"), made.certificate("Middle", "Root", FOR_AUTHORITY)
+            party.deliver(old, made.revocation_list("Middle", 1))
+            self.assertEqual(str(party.deliver(old, made.revocation_list("Middle", 1, [made.serial - 1]))), "stored 0 kept 0 contradicted 1")
             # What is newer than both decides.
             self.assertEqual(str(party.deliver(root, made.revocation_list("Root", 2))), "stored 1 kept 0 contradicted 0")
+            for middle in (old, renewed):
+                self.ends(Ends.TEMPFAIL, "ALARM: ", pem(below) + pem(middle), *words, anchors=anchor, holds="contradicted: ")
+            for issuer, certificate in ((root, renewed), (renewed, below)):
+                party.judge("cert", issuer, certificate)
+            moment = time.strftime("%Y%m%d%H%M%SZ", time.gmtime())
+            self.assertEqual(party.ask(f"check {moment} hex:{root.hex()} hex:{(renewed + below).hex()}").status, 6)
             self.ends(Ends.VALID, "valid: ", sent, *words, anchors=anchor)
 
     def test_the_bounds(self):

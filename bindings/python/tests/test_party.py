@@ -97,6 +97,21 @@ class OverTheProgram(InFolder):
             self.assertEqual(party.check(ROOT, [MIDDLE, LEAF], AT), x509check.validate(ROOT, [MIDDLE, LEAF], held, AT))
         self.assertEqual(found.judgements[0][1], Judgement.GOOD)
 
+    def test_no_file_is_a_descriptor(self):
+        """Also if it is a regular file here: in the process it is the pipe of its requests."""
+        with open(self.file("plain"), "wb") as file:
+            file.write(ROOT)
+        os.symlink("/dev/stdin", self.file("link"))
+        os.symlink("round", self.file("round"))
+        kept, plain = os.dup(0), os.open(self.file("plain"), os.O_RDONLY)
+        self.addCleanup(lambda: (os.dup2(kept, 0), os.close(kept), os.close(plain)))
+        os.dup2(plain, 0)
+        party = self.party()
+        for name in ("/dev/stdin", "/dev/fd/0", "/proc/self/fd/0", "/dev/../dev/stdin", self.file("link"), self.file("round"), "/dev/stdout"):
+            with self.subTest(name), self.assertRaises(ValueError):
+                party.ask(f"check {ASKED} {name} {value(LEAF)}")
+        self.assertEqual(party.ask(f"check {ASKED} {self.file('plain')} {value(LEAF)}"), Answer(1, "invalid 1 2 Signature"))
+
     def test_verdicts_that_are_known(self):
         party = self.party(verdicts=authority.GOOD)
         self.assertEqual(party.check(ROOT, [MIDDLE, LEAF], DECEMBER), Result(Verdict.UNKNOWN, 1))

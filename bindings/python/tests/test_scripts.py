@@ -8,7 +8,7 @@ import tempfile
 import threading
 import unittest
 
-from x509check import Certificate
+from x509check import Certificate, _ocsp
 from x509check._program import PLACES
 
 from . import authority
@@ -239,6 +239,19 @@ exec '{self.program}' "$@"
         status, out, err = self.run_script(*older, *foreign, "--keep", "a", *words)
         self.assertEqual((status, out.splitlines()[0]), (0, "valid"), err)
         self.assertIn("not signed under the issuer's key", err)
+
+    def test_a_response_that_nobody_can_judge(self):
+        """Of a delegate whose certificate is good, and which is not the issuer."""
+        made, words, serial = self.made()
+        list_words = self.put_list(made, "list.crl")
+        made.certificate("Delegate", "Root", "keyUsage=critical,digitalSignature\nextendedKeyUsage=OCSPSigning\nnoCheck=ignored\n")
+        leaf = Certificate.from_der(made.der("Server"))
+        request = _ocsp.request_for(leaf, Certificate.from_der(made.der("Root")))
+        index = f"R\t301231000000Z\t261101000000Z,keyCompromise\t{serial:04X}\tunknown\t/CN=x\n"
+        for digest, wanted in (("sha1", 4), ("sha256", 2)):
+            with open(made.path(f"{digest}.ocsp"), "wb") as file:
+                file.write(made.response(request, "Root", index, "Delegate", digest))
+            self.assertEqual(self.run_script(*list_words, "--ocsp", f"{digest}.ocsp", "--keep", digest, *words)[0], wanted, digest)
 
     def test_a_key_that_is_not_for_the_purpose(self):
         made, _, _ = self.made()

@@ -32,12 +32,12 @@ class Unjudged(Alarm):
 
 class Contradiction(Alarm):
     """Statements of one issuer contradict each other: in another order they say something else. `result` is what they say then; it is None
-    if they are too many to look at."""
+    if they are too many to look at, or stand in one response."""
 
     def __init__(self, result: "Optional[Result]" = None):
         self.result = result
         super().__init__("statements of one issuer, with one number or the same times, contradict each other; in another order they say: "
-                         f"{'nobody knows, as they are too many' if result is None else result}")
+                         f"{'nobody knows, as they are too many, or stand in one response' if result is None else result}")
 
     def __reduce__(self) -> Tuple[object, ...]:
         return type(self), (self.result,)

@@ -1,12 +1,16 @@
 """Two statements of one issuer that contradict each other: the store keeps the first, and somebody has to hear of the second."""
 
+import contextlib
 import hashlib
 from typing import TYPE_CHECKING, Callable, Dict, Iterable, Set, Tuple
 
-from ._arguments import Moment, Value
+from ._arguments import Moment, Value, der_of
+from ._certificates import Certificate
 from ._faults import Fault
+from ._policies import validate_with_policies
 from ._profile import Profile
-from ._verdicts import Verdict, validate
+from ._statement_times import is_response, singles_in
+from ._verdicts import Verdict
 
 if TYPE_CHECKING:
     from ._party import Delivery
@@ -21,16 +25,26 @@ def would_revoke(statement: Value, issuer: Value, certificates: Iterable[Value],
     It is asked about a statement that a store counted as `contradicted`, so its signature is good. If nobody can read what it says here, it
     counts as one that revokes.
     """
-    return any(_revokes(statement, issuer, one, at) for one in certificates)
+    return any(_says_revoked(statement, one) or _revokes(statement, issuer, one, at) for one in certificates)
+
+
+def _says_revoked(statement: Value, certificate: Value) -> bool:
+    # (beside something else that it says of the certificate at the same time, perhaps)
+    octets, serial = der_of(statement), Certificate.from_der(certificate).serial
+    with contextlib.suppress(ValueError):
+        return is_response(octets) and any(it.is_revoked and it.serial == serial for it in singles_in(octets))
+    return True
 
 
 def _revokes(statement: Value, issuer: Value, certificate: Value, at: Moment) -> bool:
-    # The wide profile reads more statements, and the stated one more certificates.
+    # The wide profile reads more statements, and the stated one more certificates. (A path may be valid by its policies alone.)
     for profile in (Profile.WIDE, Profile.STATED):
         try:
-            return validate(issuer, [certificate], [statement], at, verify=lambda _: True, profile=profile).verdict is Verdict.REVOKED
+            said = validate_with_policies(issuer, [certificate], [statement], at, verify=lambda _: True, initial_policies=None,
+                                          require_explicit_policy=False, profile=profile)
         except Fault:
             continue
+        return said.verdict not in (Verdict.VALID, Verdict.UNKNOWN)
     return True
 
 
@@ -39,21 +53,25 @@ class Contradictions:
     a lock, which an exception of a signal handler could leave taken: each step on a dict or a set is whole."""
 
     def __init__(self) -> None:
-        self._noted: Dict[Tuple[bytes, bytes], bytes] = {}     # by the issuer, and the SHA-256 of the statement
-        self._left_out: Set[bytes] = set()                     # issuers, of whose statements one was too many
+        # By the issuer's key, and the SHA-256 of the statement: the certificate under which it came, and the statement. (A peer chooses
+        # which certificate of an issuer it sends, a renewed one say: what it issued is revoked under each.)
+        self._noted: Dict[Tuple[bytes, bytes], Tuple[bytes, bytes]] = {}
+        self._left_out: Set[bytes] = set()                     # keys of issuers, of whose statements one was too many
 
     def note(self, issuer: bytes, statement: bytes) -> None:
-        if sum(map(len, list(self._noted.values()))) + len(statement) > _MOST:
-            self._left_out.add(issuer)
+        key = Certificate.from_der(issuer).subject_public_key_info
+        if sum(len(held) for _, held in list(self._noted.values())) + len(statement) > _MOST:
+            self._left_out.add(key)
         else:
-            self._noted[issuer, hashlib.sha256(statement).digest()] = statement
+            self._noted[key, hashlib.sha256(statement).digest()] = issuer, statement
 
     def are_alarms(self, issuer: bytes, certificate: bytes, at: Moment, deliver: "Callable[[bytes, bytes], Delivery]") -> bool:
         """Whether one of them, by an issuer, revokes a certificate. It is delivered once more: if the store then counts it as `kept`, a newer
         statement has taken the place of both."""
-        for key, statement in list(self._noted.items()):
-            if key[0] == issuer and would_revoke(statement, issuer, [certificate], at):
-                if deliver(issuer, statement).contradicted:
+        public = Certificate.from_der(issuer).subject_public_key_info
+        for key, (deliverer, statement) in list(self._noted.items()):
+            if key[0] == public and would_revoke(statement, issuer, [certificate], at):
+                if deliver(deliverer, statement).contradicted:
                     return True
                 self._noted.pop(key, None)
-        return issuer in self._left_out
+        return public in self._left_out

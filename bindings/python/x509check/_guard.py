@@ -15,7 +15,7 @@ def guarded(party: Party, request: Request, words: Sequence[Word], answer: Answe
         issuer, statement = _operands(request, words)
         party.note_contradicted(issuer, statement)
     if request.form in (Form.CHECK, Form.CHECK_POLICIES, Form.FIND) and answer.status in _MAY_BE_ACCEPTED:
-        path = _path_found(request, words, answer) if request.form is Form.FIND else _operands(request, words)
+        path = _path_found(request, words, answer) if request.form is Form.FIND else _certificates(_operands(request, words))
         if party.contradicted(path, str(words[1])):
             return CONTRADICTED
     return answer
@@ -23,6 +23,11 @@ def guarded(party: Party, request: Request, words: Sequence[Word], answer: Answe
 
 def _operands(request: Request, words: Sequence[Word]) -> List[bytes]:
     return [word for word in words[request.operands_from:] if isinstance(word, bytes)]
+
+
+def _certificates(operands: Sequence[bytes]) -> List[bytes]:
+    """The certificates of a path, of which one operand may hold several in a row."""
+    return [one.octets for octets in operands for one in load(octets)]
 
 
 def _path_found(request: Request, words: Sequence[Word], answer: Answer) -> List[bytes]:

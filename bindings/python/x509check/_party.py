@@ -37,6 +37,8 @@ _TRIES = 8
 _FINGERPRINT_OCTETS = _lines.FINGERPRINT_DIGITS // 2
 # A path has at most so many certificates, its anchor with it.
 _MOST = 129
+# So many links behind a name are followed, as systems do.
+_MOST_LINKS = 40
 # Of so many certificates it is kept whom they name.
 _NAMED = 1024
 
@@ -256,8 +258,11 @@ class Party:
         if self._is_connected:
             raise ValueError(f"a request to a socket names no file: {word[:80]!r}")
         name = _lines.name_in(word)
+        if name is None:
+            return    # (the process says so)
+        path = os.path.join(os.fsencode(self._process_folder), name)
         try:
-            is_regular = name is None or stat.S_ISREG(os.stat(os.path.join(os.fsencode(self._process_folder), name)).st_mode)
+            is_regular = not _is_of_a_process(path) and stat.S_ISREG(os.stat(path).st_mode)
         except (OSError, ValueError):
             return    # (the process cannot read it either, and says so)
         if not is_regular:
@@ -544,6 +549,19 @@ class Party:
         if desk is not None and not self._is_closed and desk.process_id == os.getpid():
             warnings.warn(f"{self!r} was not closed", ResourceWarning, source=self)
             self.close()
+
+
+def _is_of_a_process(path: bytes) -> bool:
+    """Whether a file that is there is named as a descriptor, which is another one in another process: /dev/stdin is its own requests there."""
+    for _ in range(_MOST_LINKS):
+        folder = os.path.realpath(os.path.dirname(path))
+        if (folder + b"/").startswith((b"/dev/", b"/proc/")):
+            return True
+        path = os.path.join(folder, os.path.basename(path))
+        if not os.path.islink(path):
+            return False
+        path = os.path.join(folder, os.readlink(path))
+    return True
 
 
 def kind_of(statement: bytes) -> str:

@@ -1,9 +1,10 @@
 """What a judge of signatures may be asked (RFC 5280, 6; RFC 6960, 3.2)."""
 
 import dataclasses
-from typing import Iterable, List, Optional, Union
+from typing import Dict, Iterable, List, Optional, Tuple, Union
 
 from ._arguments import Value
+from ._library import Place, QuestionFields
 from ._profile import Profile
 from ._query import Query, Search
 
@@ -23,19 +24,29 @@ class SignatureQuestion:
     fingerprint: bytes
 
 
+def _built(query: Union[Query, Search], fields: Iterable[QuestionFields]) -> List[SignatureQuestion]:
+    """Questions, as octets. Those of one place are there once: a response is asked about under the key of each certificate in it."""
+    parts: Dict[Tuple[int, int, int, int], bytes] = {}
+
+    def part(it: Place) -> bytes:
+        key = it.text, it.index, it.offset, it.length
+        if key not in parts:
+            parts[key] = query.part(it)
+        return parts[key]
+    return [SignatureQuestion(part(it.algorithm), part(it.key_info), part(it.message), part(it.signature), bytes(it.fingerprint)) for it in fields]
+
+
 def ask(query: Union[Query, Search]) -> List[SignatureQuestion]:
     """The questions, as octets."""
-    part = query.part
-    return [SignatureQuestion(part(it.algorithm), part(it.key_info), part(it.message), part(it.signature), bytes(it.fingerprint))
-            for it in query.questions()]
+    return _built(query, query.questions())
 
 
 def ask_within(search: Search, most: int) -> Optional[List[SignatureQuestion]]:
     """Each different question of a search, once; None if there are more than so many. Not many more are ever built."""
     if search.may_ask_more(most):
         return None
-    found = {question.fingerprint: question for question in ask(search)}
-    return list(found.values()) if len(found) <= most else None
+    found = {bytes(it.fingerprint): it for it in search.questions()}
+    return _built(search, found.values()) if len(found) <= most else None
 
 
 def questions(

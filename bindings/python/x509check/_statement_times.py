@@ -8,12 +8,12 @@ says by itself.
 import calendar
 import re
 import time
-from typing import List, Optional, Tuple
+from typing import List, NamedTuple, Optional, Tuple
 
 from ._der import OBJECT_IDENTIFIER, SEQUENCE, Value, contents_of, first_identifier, value
 
 _INTEGER, _UTC_TIME, _GENERALIZED_TIME, _OCTET_STRING = 0x02, 0x17, 0x18, 0x04
-_EXPLICIT_0 = 0xA0
+_EXPLICIT_0, _EXPLICIT_1 = 0xA0, 0xA1
 # The identifier octet of responseStatus, the first value in a response (RFC 6960, 4.2.1); a list begins with a SEQUENCE.
 _ENUMERATED = 0x0A
 _CRL_NUMBER = contents_of("2.5.29.20")
@@ -95,8 +95,17 @@ def response_signed(octets: bytes) -> Optional[bytes]:
     return bytes(_first(_basic(octets), 4).whole) if is_response(octets) else None
 
 
-def response_times(octets: bytes) -> List[Tuple[bytes, bytes, bytes]]:
-    """Of each single response the serial number, thisUpdate and producedAt. Raises ValueError if it cannot be read."""
+class Single(NamedTuple):
+    """A single response (RFC 6960, 4.2.1)."""
+
+    serial: bytes
+    times: Tuple[bytes, bytes]
+    """thisUpdate and producedAt."""
+    is_revoked: bool
+
+
+def singles_in(octets: bytes) -> List[Single]:
+    """The single responses of a response. Raises ValueError if it cannot be read."""
     parts = _first(_basic(octets), 4).as_a(SEQUENCE).members(5)
     produced = [bytes(it.contents) for it in parts if it.identifier == _GENERALIZED_TIME]
     singles = [it for it in parts if it.identifier == SEQUENCE]
@@ -104,8 +113,9 @@ def response_times(octets: bytes) -> List[Tuple[bytes, bytes, bytes]]:
         raise ValueError("a response without its time or its single responses")
     found = []
     for single in singles[0].members():
-        identifier, _, this_update, *_ = single.as_a(SEQUENCE).members(5)
-        found.append((bytes(identifier.as_a(SEQUENCE).members(4)[3].contents), bytes(this_update.contents), produced[0]))
+        identifier, status, this_update, *_ = single.as_a(SEQUENCE).members(5)
+        serial = bytes(identifier.as_a(SEQUENCE).members(4)[3].contents)
+        found.append(Single(serial, (bytes(this_update.contents), produced[0]), status.identifier == _EXPLICIT_1))
     return found
 
 

@@ -314,6 +314,8 @@ def with_alarms(result: Result, query: Query, judged: Sequence[Judged], good: by
                 break
     except ValueError:
         alarms.append(Contradiction())
+    if rivals.are_split(stands) and not any(isinstance(it, Contradiction) for it in alarms):
+        alarms.append(Contradiction())
     return dataclasses.replace(result, alarms=tuple(alarms))
 
 
