@@ -47,6 +47,20 @@ class KeptFiles(unittest.TestCase):
             replace_file("/nowhere/kept", b"")
         self.assertEqual(sorted(os.listdir(os.path.dirname(self.path))), ["kept", "kept.link"])
 
+    def test_what_is_no_file_is_written_to(self):
+        os.mkfifo(self.path)
+        with open(os.open(self.path, os.O_RDONLY | os.O_NONBLOCK), "rb") as reader:
+            replace_file(self.path, b"said")
+            self.assertEqual((reader.read(), stat.S_ISFIFO(os.stat(self.path).st_mode)), (b"said", True))
+
+    @unittest.skipIf(os.geteuid(), "only root gives files away")
+    def test_a_file_keeps_its_owner(self):
+        self.put(b"before")
+        os.chown(self.path, 12345, 12346)
+        replace_file(self.path, b"behind")
+        held = os.stat(self.path)
+        self.assertEqual((held.st_uid, held.st_gid), (12345, 12346))
+
     def test_text_stands_on_a_line_of_its_own(self):
         add_text(self.path, "first\n")
         add_text(self.path, "second")

@@ -341,12 +341,12 @@ class OverAStandIn(Served):
         first.sendall(b"check hex:30\n")
         second.sendall(b"forg")
         third.sendall(b"forget\n")
-        third.settimeout(1.5)
+        third.settimeout(0.5)
         with self.assertRaises(OSError):
-            third.recv(100)    # (the first is at work, and the second has begun a line)
-        second.close()
+            third.recv(100)    # (the first is at work, and the second has begun a line, a moment ago)
         third.settimeout(20)
         self.assertEqual(third.recv(100), b"0 forgotten\n")
+        self.assertEqual(second.recv(100), b"", "of which nothing came any more")
         self.assertEqual(first.recv(100), b"0 valid\n")
 
     def test_who_rests_makes_way(self):

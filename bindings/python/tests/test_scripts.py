@@ -1,6 +1,7 @@
 """bin/validate names whom its answer is about, and never answers about another certificate than the one in question."""
 
 import os
+import shlex
 import shutil
 import subprocess
 import sys
@@ -239,6 +240,23 @@ exec '{self.program}' "$@"
         status, out, err = self.run_script(*older, *foreign, "--keep", "a", *words)
         self.assertEqual((status, out.splitlines()[0]), (0, "valid"), err)
         self.assertIn("not signed under the issuer's key", err)
+
+    def test_streams_that_take_nothing(self):
+        """Python's own status, 1, would read as a verdict."""
+        script, found = os.path.join(authority.TOP, "bin", "validate"), []
+        made, words, _ = self.made()
+        words = [*self.put_list(made, "list.crl"), *words]
+        for redirected, given in ((">/dev/full", words), ("2>/dev/full", words), ("2>&-", words), ("2>/dev/full", ["--name", "", *words]),
+                                  (">&-", words)):
+            command = " ".join(map(shlex.quote, (sys.executable, "-B", script, *given)))
+            done = subprocess.run(["sh", "-c", f"{command} {redirected}"], cwd=self.folder, env={**os.environ, "X509CHECK": self.program},
+                                  stdout=subprocess.PIPE, stderr=subprocess.PIPE, check=False)
+            found.append(done.returncode)
+        self.assertEqual(found, [6, 0, 0, 5, 6])
+        moved = self.put("moved", b"")
+        shutil.copyfile(script, moved)
+        done = subprocess.run([sys.executable, "-B", "-I", moved, *words], cwd=self.folder, stderr=subprocess.PIPE, check=False)
+        self.assertEqual((done.returncode, done.stderr), (6, b"validate: No module named 'x509check'\n"))
 
     def test_a_response_that_nobody_can_judge(self):
         """Of a delegate whose certificate is good, and which is not the issuer."""

@@ -15,7 +15,7 @@ _DIGITS = 64    # of a fingerprint, at the front of a line of a file of verdicts
 @contextlib.contextmanager
 def _locked(path: str) -> Iterator[None]:
     """Whoever changes the file waits for the others. The lock is that of a file beside it, since the file itself is replaced."""
-    with open(f"{path}.lock", "ab") as lock:
+    with open(f"{os.path.realpath(path)}.lock", "ab") as lock:
         fcntl.flock(lock, fcntl.LOCK_EX)
         yield
 
@@ -28,14 +28,22 @@ def _octets_in(path: str) -> bytes:
 
 
 def replace_file(path: Path, octets: bytes) -> None:
-    """Writes a file whole or not at all: whoever reads it meanwhile finds what it held before. It keeps its permissions. Raises OSError."""
+    """Writes a file whole or not at all: whoever reads it meanwhile finds what it held before. It keeps its permissions, and its owner if
+    this process may give it away. What is there and is no regular file, a device say, is written to as it is. Raises OSError."""
     name = os.path.realpath(os.fsdecode(path))
+    held = os.stat(name) if os.path.exists(name) else None
+    if held is not None and not stat.S_ISREG(held.st_mode):
+        with open(name, "wb") as device:
+            device.write(octets)
+        return
     new = f"{name}.{os.getpid()}.{secrets.token_hex(4)}"
     number = os.open(new, os.O_WRONLY | os.O_CREAT | os.O_EXCL | os.O_CLOEXEC, 0o666)
     try:
         with open(number, "wb") as file:
-            with contextlib.suppress(FileNotFoundError):
-                os.fchmod(file.fileno(), stat.S_IMODE(os.stat(name).st_mode))
+            if held is not None:
+                with contextlib.suppress(PermissionError):
+                    os.fchown(file.fileno(), held.st_uid, held.st_gid)
+                os.fchmod(file.fileno(), stat.S_IMODE(held.st_mode))
             file.write(octets)
             file.flush()
             os.fsync(file.fileno())

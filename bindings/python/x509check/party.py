@@ -15,8 +15,8 @@ contradicted: ..` if such a statement revokes a certificate of the path, until t
 
 Without --listen the socket is the one that systemd hands over (a socket unit with `Accept=no`). The file SOCKET is made with the
 permissions MODE, in octal (600): its owner alone may connect. Whoever may connect may say which signatures are good, for all, and deliver
-statements. N connections (64) are served at once. For a new one the connection is shut that has rested longest between two lines, a second
-at least; if there is none, the new one waits.
+statements. N connections (64) are served at once. For a new one the connection is shut of which nothing has come for longest, a second at
+least, while its next line was waited for; if there is none, the new one waits.
 
 PROFILE is that of the store, `stated` (the default) or `wide`.
 
@@ -53,7 +53,7 @@ _PIECE = 1 << 16
 _LINE_MOST = 1 << 24
 # So many signatures may be believed by what all connections said: `forget` on one tells the session again what the others said.
 _BELIEVED_MOST, _SAID_LEAST = 1 << 14, 64
-# A connection that rested so long, in seconds, may be shut for a new one.
+# A connection of which nothing came so long, in seconds, may be shut for a new one.
 _REST_LEAST = 1.0
 _WAIT = 0.1
 # What is wrong with the socket itself; other failures of accept pass (accept(2)).
@@ -71,7 +71,7 @@ class Lines:
         self.connection, self._most, self._seconds = connection, most, seconds
         self._left = bytearray()
         self.rests_since: Optional[float] = None
-        """Since when nothing of the next line has come, while that is waited for."""
+        """Since when nothing has come, while something is waited for."""
 
     def next(self) -> Optional[bytes]:
         """The next line, without its end; None at the end of the connection, also within a line."""
@@ -96,8 +96,7 @@ class Lines:
 
     def _receive(self, until: Optional[float]) -> bool:
         """Whether something came, until then. Between lines a connection may rest as long as it likes."""
-        if until is None:
-            self.rests_since = time.monotonic()
+        self.rests_since = time.monotonic()
         self.connection.settimeout(None if until is None else max(0.001, until - time.monotonic()))
         try:
             piece = self.connection.recv(_PIECE)
@@ -119,6 +118,7 @@ class Beliefs:
         self._most = max(_SAID_LEAST, _BELIEVED_MOST // connections)
         self._lock = threading.Lock()
         self._said: Dict[int, Set[str]] = {}      # by the number of the connection
+        self._left = 0                            # how many signatures are believed, at most, that only connections which are gone spoke of
 
     def ask(self, connection: int, line: str) -> _lines.Answer:
         """The answer to a request of a connection."""
@@ -134,16 +134,23 @@ class Beliefs:
         return self._party.ask(line)
 
     def _forget(self, connection: int) -> _lines.Answer:
-        """What others said is told again, before any other request is answered."""
         with self._lock:
             self._said.pop(connection, None)
-            others = sorted(set().union(*self._said.values()))
-            return self._party.ask_together(["forget", *(f"believe {fingerprint}" for fingerprint in others)])[0]
+            return self._forget_others()
+
+    def _forget_others(self) -> _lines.Answer:
+        """What those said who are there is told again, before any other request is answered."""
+        self._left = 0
+        kept = sorted(set().union(*self._said.values()))
+        return self._party.ask_together(["forget", *(f"believe {fingerprint}" for fingerprint in kept)])[0]
 
     def end(self, connection: int) -> None:
-        """A connection is gone. What it said is believed until somebody forgets."""
+        """A connection is gone. What it said is believed until somebody forgets, or what is left of such ones is too much."""
         with self._lock:
-            self._said.pop(connection, None)
+            self._left += len(self._said.pop(connection, ()))
+            if self._left > _BELIEVED_MOST:
+                with contextlib.suppress(PartyError):    # (then its process is gone, with what it believed)
+                    self._forget_others()
 
 
 class Server:
