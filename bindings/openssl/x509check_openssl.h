@@ -140,8 +140,8 @@ void x509check_openssl_free(struct x509check_openssl_judged *judged);
  *
  * X509CHECK_VALID is answered only if no statement stands against it, else X509CHECK_OPENSSL_UNJUDGED or X509CHECK_OPENSSL_CONTRADICTED:
  * then the refusal of the verdict names the first such statement, without a fault, and the rest is 0. To find that out, all statements are
- * read once more; if one by an issuer of the path revokes a certificate of the path, the verdict is asked for once more. Not seen is a
- * contradiction inside of one response. */
+ * read once more; if one by an issuer of the path revokes a certificate of the path, the verdict is asked for once more, and then
+ * once for each such statement until the one is found that stands against it. */
 enum x509check_openssl_status x509check_openssl_validate(const struct x509check_query *query, const struct x509check_text *statements,
                                                          size_t statement_count, const struct x509check_openssl_policy *policy,
                                                          struct x509check_verdict *verdict);
@@ -218,8 +218,9 @@ struct x509check_openssl_outcome {
  *
  * No connection carries data unless its peer was accepted in that handshake: none with a resumed session, with a pre-shared key, or under
  * SSL_VERIFY_NONE. If OpenSSL completes such a handshake, SSL_read and SSL_write fail, and SSL_get_verify_result is
- * X509_V_ERR_APPLICATION_VERIFICATION. The callback of SSL_CTX_set_keylog_callback sees to that, since OpenSSL calls it in each handshake;
- * if you set another one, each peer is refused with X509_V_ERR_INVALID_CALL. (It does not look at the secrets.)
+ * X509_V_ERR_APPLICATION_VERIFICATION. The callback of SSL_CTX_set_keylog_callback sees to that, since OpenSSL calls it in each handshake.
+ * (It does not look at the secrets.) So do not set another one: then each peer that shows a certificate is refused with
+ * X509_V_ERR_INVALID_CALL, but a connection by a pre-shared key or under SSL_VERIFY_NONE is not noticed.
  *
  * SSL_set_SSL_CTX leaves an SSL its mode of verification. A server that changes to this SSL_CTX so has to call
  * SSL_set_verify(ssl, SSL_CTX_get_verify_mode(tls), NULL) as well, or clients are not asked for a certificate, and are refused.

@@ -12,10 +12,11 @@
 /* How a signature, or a statement, stands. The better of two ways to be genuine counts, and the worse of two signatures of one way. */
 enum standing { WRONG, UNJUDGED, GOOD };
 
-/* A genuine statement that revokes a certificate of the path. */
-struct revoking {
+/* A genuine statement of an issuer of the path. */
+struct genuine {
     size_t statement;
-    size_t issuer; /* its number on the path, one less than that of the certificate */
+    size_t issuer; /* its number on the path, one less than that of the certificate below it */
+    bool revokes;  /* that certificate */
 };
 
 struct look {
@@ -25,7 +26,8 @@ struct look {
     const struct x509check_openssl_judged *judged;
     struct x509check_text serials[CERTIFICATES_MOST]; /* of the certificates below the anchor */
     struct x509check_openssl_judged asked;            /* the questions about the path and the statements, in the library's order */
-    struct revoking *revoking;
+    struct genuine *genuine;
+    size_t genuine_count;
     size_t revoking_count;
 };
 
@@ -80,17 +82,48 @@ static bool begins_with(struct x509check_text text, struct x509check_text serial
     return x509check_next_of(&text, X509CHECK_INTEGER, &value) && is_same(value.contents, serial);
 }
 
-/* Whether a response has a single response by which the certificate is revoked (RFC 6960, 4.2.1). `rest` is BasicOCSPResponse. */
+/* A single response (RFC 6960, 4.2.1). Both times are YYYYMMDDHHMMSSZ. */
+struct single {
+    struct x509check_text this_update, produced_at;
+    bool is_revoked;
+};
+
+/* Goes into the single responses of a BasicOCSPResponse: responses is the only SEQUENCE of ResponseData, behind producedAt. */
+static bool enter_singles(struct x509check_text *rest, struct x509check_text *produced_at)
+{
+    struct x509check_value time;
+    bool is_there = x509check_enter(rest, X509CHECK_SEQUENCE) && x509check_next_of(rest, X509CHECK_GENERALIZED_TIME, &time)
+                    && x509check_enter(rest, X509CHECK_SEQUENCE);
+
+    *produced_at = time.contents;
+    return is_there;
+}
+
+/* Takes the next single response about the certificate; false if there is none. */
+static bool next_about(struct x509check_text *rest, struct x509check_text serial, struct single *found)
+{
+    struct x509check_value single, id, status, this_update;
+
+    while (x509check_next_value(rest, &single)) {
+        if (x509check_next_value(&single.contents, &id) && x509check_next_value(&single.contents, &status)
+            && x509check_next_value(&single.contents, &this_update) && begins_with(id.contents, serial)) {
+            found->is_revoked = status.identifier == X509CHECK_TAGGED_1;
+            found->this_update = this_update.contents;
+            return true;
+        }
+    }
+    return false;
+}
+
+/* Whether a response has a single response by which the certificate is revoked. `rest` is BasicOCSPResponse. */
 static bool response_revokes(struct x509check_text rest, struct x509check_text serial)
 {
-    struct x509check_value single, id, status;
+    struct single single;
 
-    /* (responses is the only SEQUENCE of ResponseData) */
-    if (!x509check_enter(&rest, X509CHECK_SEQUENCE) || !x509check_enter(&rest, X509CHECK_SEQUENCE))
+    if (!enter_singles(&rest, &single.produced_at))
         return false;
-    while (x509check_next_value(&rest, &single)) {
-        if (x509check_next_value(&single.contents, &id) && x509check_next_value(&single.contents, &status)
-            && status.identifier == X509CHECK_TAGGED_1 && begins_with(id.contents, serial))
+    while (next_about(&rest, serial, &single)) {
+        if (single.is_revoked)
             return true;
     }
     return false;
@@ -167,8 +200,12 @@ static void look_at_each(struct look *look, struct x509check_openssl_doubts *dou
             size_t issuer = questions[at].key_info.index;
             enum standing standing = standing_under(look, at, &at);
 
-            if (standing == GOOD && revokes(look->statements[statement], look->serials[issuer]))
-                look->revoking[look->revoking_count++] = (struct revoking){statement, issuer};
+            if (standing == GOOD) {
+                bool is_revoking = revokes(look->statements[statement], look->serials[issuer]);
+
+                look->genuine[look->genuine_count++] = (struct genuine){statement, issuer, is_revoking};
+                look->revoking_count += is_revoking;
+            }
             best = better(best, standing);
         }
         if (best == UNJUDGED && doubts->unjudged_count++ == 0)
@@ -178,39 +215,105 @@ static void look_at_each(struct look *look, struct x509check_openssl_doubts *dou
 
 /* ---- Whether what revokes is outweighed. ---- */
 
-/* The first statement that revokes what the issuer issued, or any certificate if it is ANY; null if none does. */
-static const struct revoking *first_revoking(const struct look *look, size_t issuer)
+/* Whether the statement revokes what the issuer issued, or any certificate if that is ANY. */
+static bool is_revoking(const struct genuine *genuine, size_t issuer)
 {
-    for (size_t i = 0; i < look->revoking_count; i++) {
-        if (issuer == ANY || look->revoking[i].issuer == issuer)
-            return &look->revoking[i];
+    return genuine->revokes && (issuer == ANY || genuine->issuer == issuer);
+}
+
+/* The first statement that does so; null if none does. */
+static const struct genuine *first_revoking(const struct look *look, size_t issuer)
+{
+    for (size_t i = 0; i < look->genuine_count; i++) {
+        if (is_revoking(&look->genuine[i], issuer))
+            return &look->genuine[i];
     }
     return NULL;
 }
 
-/* Notes whether the query is still valid if these statements come before all others: of two with one number, or the same times, the first
+/* Asks whether the query is still valid if these statements come before all others: of two with one number, or the same times, the first
  * counts (RFC 5280, 5.2.3; RFC 6960, 2.4). */
+static enum x509check_openssl_status ask_first(const struct look *look, const struct x509check_query *query, struct x509check_text *texts,
+                                               size_t count, bool *is_valid)
+{
+    struct x509check_verdict verdict;
+
+    memcpy(texts + count, look->statements, look->statement_count * sizeof *texts);
+    verdict = x509check_validate(query, texts, count + look->statement_count, look->judged->good, look->judged->good_count);
+    *is_valid = verdict.verdict == X509CHECK_VALID;
+    return verdict.refusal.fault == X509CHECK_FAULT_MEMORY ? X509CHECK_OPENSSL_NO_MEMORY : X509CHECK_OPENSSL_DONE;
+}
+
+/* Notes whether all that revoke together come before the others, and then the first that does so by itself, if one does. */
 static enum x509check_openssl_status ask_again(const struct look *look, const struct x509check_query *query, size_t issuer,
                                                struct x509check_openssl_doubts *doubts)
 {
     struct x509check_text *texts = calloc(look->revoking_count + look->statement_count, sizeof *texts);
-    struct x509check_verdict verdict;
+    enum x509check_openssl_status status;
+    bool is_valid = true;
     size_t count = 0;
 
     if (texts == NULL)
         return X509CHECK_OPENSSL_NO_MEMORY;
-    for (size_t i = 0; i < look->revoking_count; i++) {
-        if (issuer == ANY || look->revoking[i].issuer == issuer)
-            texts[count++] = look->statements[look->revoking[i].statement];
+    for (size_t i = 0; i < look->genuine_count; i++) {
+        if (is_revoking(&look->genuine[i], issuer))
+            texts[count++] = look->statements[look->genuine[i].statement];
     }
-    memcpy(texts + count, look->statements, look->statement_count * sizeof *texts);
-    verdict = x509check_validate(query, texts, count + look->statement_count, look->judged->good, look->judged->good_count);
+    status = ask_first(look, query, texts, count, &is_valid);
+    if (status == X509CHECK_OPENSSL_DONE && !is_valid) {
+        doubts->is_revoked = true;
+        doubts->revoking = first_revoking(look, issuer)->statement;
+        is_valid = true;
+    }
+    for (size_t i = 0; i < look->genuine_count && status == X509CHECK_OPENSSL_DONE && doubts->is_revoked && is_valid; i++) {
+        if (!is_revoking(&look->genuine[i], issuer))
+            continue;
+        texts[0] = look->statements[look->genuine[i].statement];
+        status = ask_first(look, query, texts, 1, &is_valid);
+        if (!is_valid)
+            doubts->revoking = look->genuine[i].statement;
+    }
     free(texts);
-    if (verdict.refusal.fault == X509CHECK_FAULT_MEMORY)
-        return X509CHECK_OPENSSL_NO_MEMORY;
-    doubts->is_revoked = verdict.verdict != X509CHECK_VALID;
-    doubts->revoking = first_revoking(look, issuer)->statement;
-    return X509CHECK_OPENSSL_DONE;
+    return status;
+}
+
+/* ---- Responses that say two things of one time. ---- */
+
+static int compare_times(const struct single *one, const struct single *other)
+{
+    size_t length = one->this_update.length;
+    int order = length == other->this_update.length ? memcmp(one->this_update.octets, other->this_update.octets, length) : 0;
+
+    length = one->produced_at.length;
+    return order != 0 || length != other->produced_at.length ? order : memcmp(one->produced_at.octets, other->produced_at.octets, length);
+}
+
+/* Whether the newest single responses about what an issuer issued say that it is revoked, and that it is not. (Inside of one response no
+ * order can be changed.) */
+static bool is_split(const struct look *look, size_t issuer, struct x509check_openssl_doubts *doubts)
+{
+    struct single newest = {{NULL, 0}, {NULL, 0}, false}, single;
+    bool is_good = false, is_revoked = false;
+
+    for (size_t i = 0; i < look->genuine_count; i++) {
+        struct x509check_text rest = look->statements[look->genuine[i].statement];
+
+        if (look->genuine[i].issuer != issuer || !x509check_enter_response(&rest) || !enter_singles(&rest, &single.produced_at))
+            continue;
+        while (next_about(&rest, look->serials[issuer], &single)) {
+            int order = newest.this_update.octets == NULL ? 1 : compare_times(&single, &newest);
+
+            if (order > 0) {
+                newest = single;
+                is_good = is_revoked = false;
+            }
+            if (order >= 0 && single.is_revoked)
+                doubts->revoking = look->genuine[i].statement;
+            is_revoked |= order >= 0 && single.is_revoked;
+            is_good |= order >= 0 && !single.is_revoked;
+        }
+    }
+    return is_good && is_revoked;
 }
 
 /* The question about one certificate of the path under its issuer, the anchor having the number 0. */
@@ -231,6 +334,12 @@ static enum x509check_openssl_status weigh(const struct look *look, uint32_t ver
 
     if (look->revoking_count == 0)
         return status;
+    for (size_t issuer = 0; issuer < look->query->path_count; issuer++) {
+        if (is_split(look, issuer, doubts)) {
+            doubts->is_revoked = true;
+            return status;
+        }
+    }
     if (verdict == X509CHECK_VALID)
         return ask_again(look, look->query, ANY, doubts);
     for (size_t issuer = 0; issuer < look->query->path_count && status == X509CHECK_OPENSSL_DONE && !doubts->is_revoked; issuer++) {
@@ -272,15 +381,15 @@ enum x509check_openssl_status x509check_openssl_doubt(const struct x509check_que
     if (status == X509CHECK_OPENSSL_DONE)
         status = x509check_openssl_take_questions(query, statements, statement_count, &look.asked);
     if (status == X509CHECK_OPENSSL_DONE) {
-        look.revoking = calloc(look.asked.count + 1, sizeof *look.revoking);
-        status = look.revoking == NULL ? X509CHECK_OPENSSL_NO_MEMORY : X509CHECK_OPENSSL_DONE;
+        look.genuine = calloc(look.asked.count + 1, sizeof *look.genuine);
+        status = look.genuine == NULL ? X509CHECK_OPENSSL_NO_MEMORY : X509CHECK_OPENSSL_DONE;
     }
     if (status == X509CHECK_OPENSSL_DONE) {
         look_at_each(&look, doubts);
         status = weigh(&look, verdict, doubts);
     }
     x509check_openssl_free(&look.asked);
-    free(look.revoking);
+    free(look.genuine);
     return status;
 }
 

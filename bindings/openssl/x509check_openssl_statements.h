@@ -14,7 +14,7 @@ struct x509check_openssl_doubts {
 
 /* What is to be said beside the verdict on a path, X509CHECK_VALID or X509CHECK_UNKNOWN, by the judgements on the questions about it
  * (there may be others). All statements are read once more. If genuine ones revoke certificates of the path, the verdict is asked for once
- * more; if it is X509CHECK_UNKNOWN, once for each such certificate. */
+ * more (if it is X509CHECK_UNKNOWN, once for each such certificate); if one stands against it, once for each of them until it is found. */
 enum x509check_openssl_status x509check_openssl_doubt(const struct x509check_query *query, uint32_t verdict,
                                                       const struct x509check_text *statements, size_t statement_count,
                                                       const struct x509check_openssl_judged *judged,

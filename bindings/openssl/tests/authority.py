@@ -4,6 +4,11 @@ import os
 import re
 import ssl
 import subprocess
+import sys
+
+sys.path.insert(0, os.path.join(os.path.dirname(os.path.abspath(__file__)), "..", "..", "python"))
+
+from x509check import _der  # noqa: E402
 
 FOR_AUTHORITY = "basicConstraints=critical,CA:TRUE\nkeyUsage=critical,keyCertSign,cRLSign\n"
 FOR_SERVER = "subjectAltName=DNS:server.example,DNS:*.wild.example,IP:192.0.2.1,email:post@server.example\nextendedKeyUsage=serverAuth\n"
@@ -19,6 +24,7 @@ default_md = sha256
 default_crl_days = 30
 """
 TIME = re.compile(rb"\x18\x0f(\d{14}Z)")
+BASIC = b"\x06\x09\x2b\x06\x01\x05\x05\x07\x30\x01\x01"    # id-pkix-ocsp-basic
 FOREVER, YESTERDAY = "491231235959Z", "200101000000Z"
 
 
@@ -96,9 +102,28 @@ class Authority:
             if TIME.findall(self.read(f"{name}.ocsp"))[0] == TIME.findall(self.read(f"{other}.ocsp"))[0]:
                 return
 
+    def joined_response(self, name, first, second, issuer):
+        """One response with what two say, and the times of the first: NAME.ocsp."""
+        said = [_der.values(basic_response(self.read(f"{one}.ocsp")).contents) for one in (first, second)]
+        data = [_der.values(basic[0].contents) for basic in said]
+        singles = _der.encoded(0x30, *(values[2].contents for values in data))
+        signed = _der.encoded(0x30, data[0][0].whole, data[0][1].whole, singles)
+        self.openssl("dgst", "-sha256", "-sign", self.path(f"{issuer}.key"), "-out", self.path(f"{name}.signature"),
+                     self.write(f"{name}.signed", signed))
+        signature = _der.encoded(3, b"\0", self.read(f"{name}.signature"))
+        basic = _der.encoded(0x30, signed, said[0][1].whole, signature)
+        octets = _der.encoded(0x30, BASIC, _der.encoded(4, basic))
+        self.write(f"{name}.ocsp", _der.encoded(0x30, b"\x0a\1\0", _der.encoded(0xA0, octets)))
+
     def bundle(self, name, *certificates):
         """NAME.pem: certificates one behind the other."""
         self.write(f"{name}.pem", b"".join(self.read(f"{one}.pem") for one in certificates))
+
+
+def basic_response(octets):
+    """The BasicOCSPResponse of an OCSPResponse (RFC 6960, 4.2.1)."""
+    octets = _der.values(_der.value(octets).contents)[1].contents
+    return _der.value(_der.values(_der.value(octets).contents)[1].contents)
 
 
 def made_in(folder):
@@ -128,7 +153,10 @@ def made_in(folder):
     made.list("lapsing_list", "middle", revoked=("leaf",), days=1)
     made.list("lapsing_good_list", "middle", days=1)
     made.list("later_list", "middle", number=2)
+    made.list("later_revoking_list", "middle", revoked=("leaf",), number=2)
     made.contradicting_responses("good", "revoked", "middle", "leaf")
+    made.joined_response("good_and_revoked", "good", "revoked", "middle")
+    made.joined_response("revoked_and_good", "revoked", "good", "middle")
     made.response("weak", "middle", "leaf", revoked=True, digest="sha1")
     made.response("weak_of_root", "root", "middle", revoked=True, digest="sha1")    # (with the root's own certificate)
     make_delegates(made)

@@ -126,6 +126,10 @@ static void try_contradictions(void)
     EXPECT(stops(about("middle_list.crl", "revoking_list.crl", "middle_list.crl", "root_list.crl", NULL), contradicted, 1));
     EXPECT(stops(about("root_list.crl", "root_revoking_list.crl", "middle_list.crl", NULL), contradicted, 1));
     EXPECT(stops(about("root_list.crl", "good.ocsp", "revoked.ocsp", NULL), contradicted, 2));
+    EXPECT(stops(about("root_list.crl", "good_and_revoked.ocsp", NULL), contradicted, 1));
+    EXPECT(says(about("root_list.crl", "revoked_and_good.ocsp", NULL), X509CHECK_REVOKED));
+    /* (the older of the two that revoke stands against nothing) */
+    EXPECT(stops(about("root_list.crl", "revoking_list.crl", "later_list.crl", "later_revoking_list.crl", NULL), contradicted, 3));
     EXPECT(says(about("root_list.crl", "revoking_list.crl", "middle_list.crl", NULL), X509CHECK_REVOKED));
     EXPECT(says(about("root_list.crl", "revoking_list.crl", "later_list.crl", NULL), X509CHECK_VALID));
     EXPECT(says(about("root_list.crl", "later_list.crl", "revoking_list.crl", NULL), X509CHECK_VALID));

@@ -5,6 +5,9 @@ pub(crate) const SEQUENCE: u8 = 0x30;
 pub(crate) const SET: u8 = 0x31;
 /// ENUMERATED, with which an OCSP response begins (RFC 6960, 4.2.1).
 const ENUMERATED: u8 = 0x0A;
+const GENERALIZED_TIME: u8 = 0x18;
+/// The identifier octet of `revoked`, of CertStatus.
+const REVOKED: u8 = 0xA1;
 
 /// A value of DER.
 pub(crate) struct Value<'a> {
@@ -93,4 +96,43 @@ fn basic_response(contents: &[u8]) -> Option<&[u8]> {
     let (string, _) = first_value(behind)?;
     let (basic, _) = first_value(string.contents)?;
     Some(basic.contents)
+}
+
+/// A single response (RFC 6960, 4.2.1).
+pub(crate) struct Single<'a> {
+    pub serial: &'a [u8],
+    /// thisUpdate and producedAt, each YYYYMMDDHHMMSSZ.
+    pub times: (&'a [u8], &'a [u8]),
+    pub is_revoked: bool,
+}
+
+/// The single responses of a response that the library has read; none of a list.
+pub(crate) fn singles(statement: &[u8]) -> Vec<Single<'_>> {
+    single_responses(statement).unwrap_or_default()
+}
+
+fn single_responses(statement: &[u8]) -> Option<Vec<Single<'_>>> {
+    if !is_response(statement) {
+        return None;
+    }
+    let (outer, _) = first_value(statement)?;
+    let (data, _) = first_value(basic_response(outer.contents)?)?;
+    let parts = inside(&data, SEQUENCE)?;
+    let of = |identifier| parts.iter().find(|it| it.identifier == identifier);
+    let produced_at = of(GENERALIZED_TIME)?.contents;
+    let responses = inside(of(SEQUENCE)?, SEQUENCE)?;
+    responses
+        .iter()
+        .map(|it| single_in(it, produced_at))
+        .collect()
+}
+
+fn single_in<'a>(single: &Value<'a>, produced_at: &'a [u8]) -> Option<Single<'a>> {
+    let parts = inside(single, SEQUENCE)?;
+    let (id, status, this_update) = (parts.first()?, parts.get(1)?, parts.get(2)?);
+    Some(Single {
+        serial: inside(id, SEQUENCE)?.get(3)?.contents,
+        times: (this_update.contents, produced_at),
+        is_revoked: status.identifier == REVOKED,
+    })
 }

@@ -1,6 +1,7 @@
 //! What is looked at before a path is valid by statements at hand: whether each of them was judged, and whether two contradict each other.
 
-use crate::der::{is_response, signed_part};
+use crate::certificate::Certificate;
+use crate::der::{is_response, signed_part, singles};
 use crate::fault::{Error, Fault, Text};
 use crate::judge::{Heard, Judgement, SignatureQuestions};
 use crate::library::{Place, QuestionFields, STATEMENTS};
@@ -195,6 +196,9 @@ impl Grounds<'_> {
     fn contradicting(&self) -> Result<Option<usize>, Error> {
         for (position, issuer) in self.issuers.iter().enumerate() {
             let signed = self.standings.good_under(*issuer);
+            if let Some(statement) = self.split(position, &signed) {
+                return Ok(Some(statement));
+            }
             if signed.len() < 2 {
                 continue;
             }
@@ -205,10 +209,40 @@ impl Grounds<'_> {
                 }
             }
             if !revoking.is_empty() && self.is_revoked_by_first(&revoking)? {
-                return Ok(revoking.first().copied());
+                return self.which_revokes(&revoking);
             }
         }
         Ok(None)
+    }
+
+    /// The first of these by which the path is revoked if it comes before all others; the first of all if several have to.
+    fn which_revokes(&self, revoking: &[usize]) -> Result<Option<usize>, Error> {
+        for statement in revoking {
+            if self.is_revoked_by_first(&[*statement])? {
+                return Ok(Some(*statement));
+            }
+        }
+        Ok(revoking.first().copied())
+    }
+
+    /// A response, of those that the issuer signed, by which the certificate of the path behind this position is revoked, while the newest
+    /// single responses about it, of one time with this one, also say that it is not. (Inside of one response no order can be changed.)
+    fn split(&self, position: usize, signed: &[usize]) -> Option<usize> {
+        let certificate = Certificate::read(self.query.path[position]).ok()?;
+        let mut about = Vec::new();
+        for statement in signed {
+            let singles = singles(self.query.statements[*statement]).into_iter();
+            let of_certificate = singles.filter(|it| it.serial == certificate.serial());
+            about.extend(of_certificate.map(|it| (*statement, it)));
+        }
+        let newest = about.iter().map(|(_, it)| it.times).max()?;
+        let says = |revoked: bool| {
+            about
+                .iter()
+                .find(|(_, it)| it.times == newest && it.is_revoked == revoked)
+        };
+        says(false)?;
+        says(true).map(|(statement, _)| *statement)
     }
 
     /// Whether the statement by itself revokes the certificate of the path behind this position.

@@ -89,7 +89,7 @@ fn lists_of_one_number() {
         (vec![&revoking, &good], revoked(1)),
         // Neither the first nor the last of its number.
         (vec![&good, &revoking, &same], contradicted(1)),
-        (vec![&older, &same, &good, &revoking], contradicted(0)),
+        (vec![&older, &same, &good, &revoking], contradicted(3)),
         // A list that does not revoke may contradict another, and a newer one takes the place of all.
         (vec![&good, &same], VALID),
         (vec![&older, &good], VALID),
@@ -117,11 +117,17 @@ fn responses_of_one_time() {
     let good = response("Root", &[says(3, false)], &[]);
     let revoking = response("Root", &[says(3, true)], &[]);
     let newer = response("Root", &[says(4, false)], &[]);
+    // Two single responses in one response.
+    let both = response("Root", &[says(3, false), says(3, true)], &[]);
+    let reversed = response("Root", &[says(3, true), says(3, false)], &[]);
     for (statements, expected) in [
         (vec![&good, &revoking], contradicted(1)),
         (vec![&revoking, &good], revoked(1)),
         (vec![&good, &revoking, &good], contradicted(1)),
         (vec![&good, &revoking, &newer], VALID),
+        (vec![&both], contradicted(0)),
+        (vec![&reversed], revoked(1)),
+        (vec![&both, &newer], VALID),
     ] {
         let statements: Vec<Vec<u8>> = statements.into_iter().cloned().collect();
         assert_eq!(answers(&[leaf()], &statements), [expected; 3]);
