@@ -12,7 +12,7 @@ use Rattle.cli_failures.specs.declared.failure.Failure.TheVariants.{NoMemory}
 use Rattle.store_listing.specs.Listing.{seen_held_issuer, seen_listing}
 use Rattle.store_listing.specs.declared.held.Listing.{Listing}
 use Rattle.cli_listing.specs.ListingText.{IdsRise, listing_text}
-use Rattle.cli_operands.specs.Asked.{AcceptsJust, IsMomentOf}
+use Rattle.cli_operands.specs.Asked.{AcceptsJust, IsBadMoment, IsMomentOf}
 use Rattle.cli_session.specs.Believed.{BelievesJust, accepted_by}
 use Rattle.cli_session.specs.declared.believed.Believed.{Believed}
 use Rattle.cli_words.specs.PolicyTexts.{PolicyTexts}
@@ -193,13 +193,16 @@ module _ {K : Type 0} (keeps : K → Keeping) (old new : K) (believed : Believed
         (inr ((at, asked), done.1), refl),
       )
 
+  pub not_asked : (failure : Failure) → IsBadMoment moment failure → Steps believed (keeps old) believed (keeps old) (λ before after. ListsHeld moment before (Failed failure) × (after ≡ before))
+  not_asked failure bad before is = (before, is, (inl bad, refl))
+
 -- a keeper's listing, in lines
 pub in_lines : (old new : Keeping) (all : Listing) (at : Option ℤ) (result : Result (Vec ℕ) Failure) → AnswersWithListing old new (Ok all)
     → IfOk result (λ text. IdsRise (map seen_held_issuer all.issuers.items) → text.items ≡ listing_text at (seen_listing all))
     → IfErr result (λ failure. failure ≡ NoMemory) → AnswersWithLines old new at result
-in_lines old new all at (Ok text) lists lines fails kept keeps =
-    let done = lists kept keeps in (done.0, (seen_listing all, done.1.0, done.1.1, lines done.1.1.rise))
-in_lines old new all at (Err failure) lists lines fails kept keeps = ((lists kept keeps).0, inl fails)
+in_lines old new all at (Ok text) lists lines fails =
+    λ kept keeps. let done = lists kept keeps in (done.0, (seen_listing all, done.1, done.2, lines done.2.rise))
+in_lines old new all at (Err failure) lists lines fails = λ kept keeps. ((lists kept keeps).0, inl fails)
 
 -- ---- fingerprints
 

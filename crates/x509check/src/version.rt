@@ -1,2 +1,2 @@
 /// The SHA-256 of the sources that the program is made from, as `.ci/sources` prints it.
-pub(crate) const SOURCES: &str = "f228e0e751e1a57960cbba592f2c4ebc571d39073e77fc061821907b73392b64";
+pub(crate) const SOURCES: &str = "91e644659dd7b6c61674c569686672b150a7bfce8841b6ad30c280654935a41d";
