@@ -196,17 +196,12 @@ module _ (old mid new : State) (stays : StaysIfClean mid new) (survives : Commit
 module _ (old mid new : State) (stays : StaysIfClean mid new) (survives : CommitsNothing mid new) (before_survives : CommitsNothing old mid) where
   -- it was read over a connection that is open still
   pub lists : (all : Listing) → IsTrue new.is_open → (HasCleanDisk mid → ReadsStore {A = Listing} old mid IsListing (Ok all)) → (HasCleanDisk mid → ShowsStore old.now all) → HasCleanDisk new
-      → IsTrue old.is_open × AnswersWithListing (keeping_in old) (keeping_in new) (Ok all)
-  lists all is_open reads shows clean =
+      → AnswersWithListing (keeping_in old) (keeping_in new) (Ok all)
+  lists all is_open reads shows clean kept keeps =
       let before = was_clean mid new survives clean in
       let same = unchanged old mid (reads before).0 in
-      let was_open = same.was_open ((stays clean).was_open is_open) in (
-        was_open,
-        λ kept keeps. (
-          kept_same mid new stays survives clean kept (kept_same old mid (λ c. same) before_survives before kept keeps),
-          shows before kept.held (keeps.0 was_open),
-        ),
-      )
+      let shown = shows before kept.held (keeps.0 (same.was_open ((stays clean).was_open is_open))) in
+      (kept_same mid new stays survives clean kept (kept_same old mid (λ c. same) before_survives before kept keeps), shown.0, shown.1)
 
   -- it was read, and then the connection refused
   pub lists_none : (all : Listing) (told : Failure) → (HasCleanDisk mid → ReadsStore {A = Listing} old mid IsListing (Ok all)) → IsNotKept told → HasCleanDisk new

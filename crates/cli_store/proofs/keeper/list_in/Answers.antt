@@ -1,19 +1,15 @@
 use Rattle.sqlite.specs.Files.{file_state}
+use Rattle.relying_verdicts.specs.declared.fault.Fault.TheVariants.{Store as OfStore}
 use Rattle.cli_store.proofs.Storing.{finds_none, lists, lists_none, not_read}
 use Rattle.cli_store.proofs.keeper.list_in.Goals as goal
 
-pub returns-in-Ok-in-Ok-clause-open : goal.returns-in-Ok-in-Ok-clause-open
-returns-in-Ok-in-Ok-clause-open g c clean =
-    (lists (file_state c.args.store.now.conn) (file_state c.read_listing.new.conn) (file_state c.probe.new.store.conn)
-    c.probe.ensures.stays c.probe.ensures.survives c.in-Ok.ensures.survives c.in-Ok.all (c.in-Ok-in-Ok.ensures.open clean) c.in-Ok.ensures.reads c.in-Ok.ensures.shows clean).0
+pub returns-in-Ok-probe-clause-lists : goal.returns-in-Ok-probe-clause-lists
+returns-in-Ok-probe-clause-lists g c clean =
+    lists (file_state c.args.store.now.conn) (file_state c.read_listing.new.conn) (file_state c.probe.new.store.conn)
+    c.probe.ensures.stays c.probe.ensures.survives c.in-Ok.ensures.survives c.in-Ok.all (c.in-Ok-probe.ensures.open clean) c.in-Ok.ensures.reads c.in-Ok.ensures.shows clean
 
-pub returns-in-Ok-in-Ok-clause-lists : goal.returns-in-Ok-in-Ok-clause-lists
-returns-in-Ok-in-Ok-clause-lists g c clean =
-    (lists (file_state c.args.store.now.conn) (file_state c.read_listing.new.conn) (file_state c.probe.new.store.conn)
-    c.probe.ensures.stays c.probe.ensures.survives c.in-Ok.ensures.survives c.in-Ok.all (c.in-Ok-in-Ok.ensures.open clean) c.in-Ok.ensures.reads c.in-Ok.ensures.shows clean).1
-
-pub returns-in-Ok-in-Err-clause-lists : goal.returns-in-Ok-in-Err-clause-lists
-returns-in-Ok-in-Err-clause-lists g c =
+pub returns-in-Err-probe-clause-lists : goal.returns-in-Err-probe-clause-lists
+returns-in-Err-probe-clause-lists g c =
     lists_none (file_state c.args.store.now.conn) (file_state c.read_listing.new.conn) (file_state c.probe.new.store.conn)
     c.probe.ensures.stays c.probe.ensures.survives c.in-Ok.ensures.survives c.in-Ok.all c.refused.result c.in-Ok.ensures.reads c.refused.ensures
 
