@@ -45,7 +45,6 @@ const BAD: &[&str] = &[
     "prints parts search",
     "prints cert a",
     "prints crt a b",
-    "list ",
     "list a b",
     "believe",
     "believe 00",
