@@ -289,7 +289,7 @@ class Made(unittest.TestCase):
         good = self.made.certificate("good", "Root", FOR_SERVER)
         store, later = self.file("lapsed"), datetime.datetime.now(datetime.timezone.utc) + datetime.timedelta(days=10)
         with Party(store, program=PROGRAM) as party:
-            party.deliver(self.root, self.lists[2])
+            party.deliver(self.root, self.made.revocation_list("Root", revoked=[self.serial]))
             self.assertEqual([it.entries for it in party.listing().lists], [1])
             for leaf, wanted in ((self.leaf, True), (good, False)):
                 self.assertEqual(party.validate_peer([leaf], [self.root], later).verdict, Verdict.UNKNOWN)

@@ -128,10 +128,12 @@ class Hints(InFolder):
                 file.write(octets)
         status, line, hint = self.hint("deliver", "--store", "store", "--verdicts", "good", "--issuer", "root.der", "list.crl")
         self.assertEqual((status, "refused 48 Scope" in line, "--profile wide" in hint), (4, True, True))
-        subprocess.run([PROGRAM, "--profile", "wide", "session", "--store", "wide"], cwd=self.folder, input=b"quit\n", stdout=subprocess.DEVNULL, check=True)
+        for profile in "wide", "stated":
+            subprocess.run([PROGRAM, "--profile", profile, "session", "--store", profile], cwd=self.folder, input=b"quit\n",
+                           stdout=subprocess.DEVNULL, check=True)
         status, line, hint = self.hint("list", "--store", "wide")
         self.assertEqual((status, line[-2:], "the profile 'stated'" in hint), (6, "72", True))
-        status, line, hint = self.hint("--profile", "wide", "list", "--store", "store")
+        status, line, hint = self.hint("--profile", "wide", "list", "--store", "stated")
         self.assertEqual((status, line[-2:], "the profile 'wide'" in hint), (6, "72", True))
 
 

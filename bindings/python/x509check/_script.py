@@ -8,9 +8,11 @@ from typing import Callable, NoReturn, Sequence
 
 
 def complain(script: str, text: object) -> None:
-    """Writes a line to standard error, if that takes it."""
-    with contextlib.suppress(OSError):
-        os.write(2, f"{script}: {text}\n".encode("utf-8", "backslashreplace"))
+    """Writes a line to standard error, if that takes it. (A process may have none.)"""
+    if sys.stderr is not None:
+        with contextlib.suppress(OSError, ValueError):
+            sys.stderr.write(f"{script}: {text}\n")
+            sys.stderr.flush()
 
 
 def run_script(main: Callable[[Sequence[str]], int], script: str, failed: int) -> NoReturn:
