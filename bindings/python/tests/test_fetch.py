@@ -402,7 +402,7 @@ class ForAParty(WithWeb):
     def told(self, report):
         return [(one.outcome.value, one.kind.value, one.url.replace(self.web.url, "")) for one in report.fetched]
 
-    def test_all_is_taken_and_again(self):
+    def test_all_is_taken_and_then_unchanged(self):
         report = self.fetcher.fetch([self.leaf, self.issuer], [self.root])
         self.assertEqual(self.told(report), [
             ("taken", "list", "/root.crl"), ("not served", "list", "ldap://x.example/issuer.crl"), ("not fetched", "list", "/gone.crl"),
@@ -416,10 +416,10 @@ class ForAParty(WithWeb):
         self.assertAlmostEqual(report.again, now + 900, delta=60)
         self.assertIn(f"not fetched list {self.web.url}/gone.crl: answered 404", str(report.fetched[2]))
         report = self.fetcher.fetch([self.leaf, self.issuer], [self.root])
-        self.assertEqual(self.told(report)[0], ("taken", "list", "/root.crl"))
+        self.assertEqual(self.told(report)[0], ("unchanged", "list", "/root.crl"))
         self.assertAlmostEqual(report.fetched[0].until, now + week, delta=60)
         # (a response that is made a second later is newer, and stored)
-        self.assertEqual([one.delivery.kept + one.delivery.stored for one in report.fetched if one.outcome is Outcome.TAKEN], [1, 1, 1])
+        self.assertEqual([one.delivery.kept + one.delivery.stored for one in report.fetched if one.outcome is Outcome.TAKEN], [1])
         for it in (report, report.fetched[0], Outcome.TAKEN):
             with self.assertRaises(TypeError):
                 bool(it)
@@ -465,7 +465,7 @@ class ForAParty(WithWeb):
         self.web.has("/issuer.crl", self.made.revocation_list("Issuer", 2, [self.leaf_serial]), ETag='"issuer 2"')
         self.assertEqual(self.fetched(), (["unchanged", "unchanged"], Verdict.VALID), "nobody can tell yet")
         now = time.time()
-        for later in (86_401, -60):    # (also if the clock went back)
+        for later in (86_401, 0):    # (the clock goes back)
             with mock.patch.object(fetch.time, "time", lambda later=later: now + later):
                 self.assertEqual(self.fetched()[0][1], "taken")
 
@@ -484,10 +484,10 @@ class ForAParty(WithWeb):
         self.assertEqual(self.fetched()[1], Verdict.VALID)
         self.party.close()
         words = ["--store", "store", "--verdicts", "good", "--anchor", "Root.pem", "--issuer", "Issuer.pem", "--allow-private", "--no-ocsp"]
-        for revoked, status, verdict in ((self.leaf_serial, 8, "unknown:"), (self.leaf_serial + 7, 1, "valid:")):
+        for revoked, status, verdict, first in ((self.leaf_serial, 8, "unknown:", "taken"), (self.leaf_serial + 7, 1, "valid:", "unchanged")):
             self.web.has("/issuer.crl", self.made.revocation_list("Issuer", 2, [revoked]))
             found, lines, err = self.run_script(*words, "Leaf.pem")
-            self.assertEqual((found, [line.split(" ")[0] for line in lines]), (status, ["taken", "not", "not", "contradicted", verdict, "again"]), err)
+            self.assertEqual((found, [line.split(" ")[0] for line in lines]), (status, [first, "not", "not", "contradicted", verdict, "again"]), err)
 
     def test_an_issuer_that_is_missing(self):
         report = self.fetcher.fetch([self.leaf], [self.root], lists=False)
@@ -632,7 +632,7 @@ class ForAParty(WithWeb):
         self.assertEqual([line.split(" ")[0] for line in lines], ["taken", "taken", "not", "not", "taken", "valid:", "again"])
         self.assertEqual(self.made.openssl("x509", "-in", "more.pem", "-outform", "DER"), self.issuer)
         status, lines, err = self.run_script(*words, "--no-ocsp", "--issuer", "more.pem", "Leaf.pem")
-        self.assertEqual([line.split(" ")[0] for line in lines], ["taken", "not", "not", "taken", "valid:", "again"])
+        self.assertEqual([line.split(" ")[0] for line in lines], ["unchanged", "not", "not", "unchanged", "valid:", "again"])
         # What it left serves the program.
         for name in ("Root", "Issuer", "Leaf"):
             with open(self.file(f"{name}.der"), "wb") as file:
@@ -659,7 +659,7 @@ class ForAParty(WithWeb):
             try:
                 self.assertEqual(served.stderr.readline(), "party: listening\n")
                 words = ["--connect", "socket", "--memory", "memory", "--anchor", "Root.pem", "--allow-private", "Leaf.pem"]
-                for wanted in ("taken", "taken"):
+                for wanted in ("taken", "unchanged"):
                     status, lines, err = self.run_script(*words)
                     self.assertEqual((status, err), (1, ""))
                     self.assertEqual([line.split(" ")[0] for line in lines],

@@ -88,7 +88,7 @@ class OverTheProgram(Calls):
         leaf = str(Certificate.from_der(LEAF).identity)
         self.ends(Ends.TEMPFAIL, f"unknown: {leaf}", SENT)
         for words in (["--accept-unknown"], ["--accept-unknown", "--name", "www.example"]):
-            self.ends(Ends.TEMPFAIL, f"unknown: {leaf}", SENT, *words, holds="what is held of its issuer cannot be told")
+            self.ends(Ends.VALID, f"unknown: {leaf}", SENT, *words, holds="no list of its issuer is held")
         self.ends(Ends.REJECTED, f"unknown: {leaf}", SENT, "--accept-unknown", "--name", "mx.example", holds="does not speak for that name")
         self.deliver((ROOT, ROOT_LIST), (MIDDLE, MIDDLE_LIST))
         self.ends(Ends.VALID, f"valid: {leaf}", SENT, "--purpose", "serverAuth", "--name", "www.example")
