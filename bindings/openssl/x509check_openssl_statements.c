@@ -91,7 +91,7 @@ struct single {
 /* Goes into the single responses of a BasicOCSPResponse: responses is the only SEQUENCE of ResponseData, behind producedAt. */
 static bool enter_singles(struct x509check_text *rest, struct x509check_text *produced_at)
 {
-    struct x509check_value time;
+    struct x509check_value time = {0};
     bool is_there = x509check_enter(rest, X509CHECK_SEQUENCE) && x509check_next_of(rest, X509CHECK_GENERALIZED_TIME, &time)
                     && x509check_enter(rest, X509CHECK_SEQUENCE);
 

@@ -196,7 +196,7 @@ impl Grounds<'_> {
     fn contradicting(&self) -> Result<Option<usize>, Error> {
         for (position, issuer) in self.issuers.iter().enumerate() {
             let signed = self.standings.good_under(*issuer);
-            if let Some(statement) = self.split(position, &signed) {
+            if let Some(statement) = self.split(position, &signed)? {
                 return Ok(Some(statement));
             }
             if signed.len() < 2 {
@@ -227,22 +227,21 @@ impl Grounds<'_> {
 
     /// A response, of those that the issuer signed, by which the certificate of the path behind this position is revoked, while the newest
     /// single responses about it, of one time with this one, also say that it is not. (Inside of one response no order can be changed.)
-    fn split(&self, position: usize, signed: &[usize]) -> Option<usize> {
-        let certificate = Certificate::read(self.query.path[position]).ok()?;
+    fn split(&self, position: usize, signed: &[usize]) -> Result<Option<usize>, Error> {
+        let certificate = Certificate::read(self.query.path[position])?;
         let mut about = Vec::new();
         for statement in signed {
             let singles = singles(self.query.statements[*statement]).into_iter();
             let of_certificate = singles.filter(|it| it.serial == certificate.serial());
             about.extend(of_certificate.map(|it| (*statement, it)));
         }
-        let newest = about.iter().map(|(_, it)| it.times).max()?;
-        let says = |revoked: bool| {
-            about
-                .iter()
-                .find(|(_, it)| it.times == newest && it.is_revoked == revoked)
-        };
-        says(false)?;
-        says(true).map(|(statement, _)| *statement)
+        let newest = about.iter().map(|(_, it)| it.times).max();
+        about.retain(|(_, it)| Some(it.times) == newest);
+        let revoking = about.iter().find(|(_, it)| it.is_revoked);
+        let is_good = about.iter().any(|(_, it)| !it.is_revoked);
+        Ok(revoking
+            .filter(|_| is_good)
+            .map(|(statement, _)| *statement))
     }
 
     /// Whether the statement by itself revokes the certificate of the path behind this position.
