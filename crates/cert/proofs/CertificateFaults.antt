@@ -19,14 +19,15 @@ use Rattle.cert.specs.Validity.{validity}
 use Rattle.cert.specs.SubjectPublicKeyInfo.{key_info}
 use Rattle.cert.specs.BitString.{has_no_unused_bits}
 use Rattle.cert.specs.Version.{is_v1, is_v3, version, version_in, version_of}
-use Rattle.cert.specs.Extensions.{extensions}
+use Rattle.cert.specs.Extensions.{Extensions, extensions}
 use Rattle.cert.specs.TbsCertificate.{next_read, component, is_serial, serial_number, distinguished_name, is_empty_name, issuer, unique_id, unique_id_in, tbs_head, tbs_subject}
 use Rattle.cert.specs.Certificate.{extensions_in, optional_extensions, tbs_certificate, same_algorithm, signature_value, certificate_at, certificate}
-use Rattle.cert.specs.Offsets.{NameFaultIsWithin, GeneralNameFaultIsWithin, SubtreeFaultIsWithin, CertificateFaultIsWithin}
+use Rattle.cert.specs.Offsets.{NameFaultIsWithin, GeneralNameFaultIsWithin, SubtreeFaultIsWithin, CertificateFaultIsWithin, ExtensionValuesStand}
 use Rattle.cert.proofs.FaultPlaces.{begins_at, encoded_part, Left, members_left}
 use Rattle.cert.proofs.FaultSteps.{Within, Any, and_then, refused, Next, NextIs, StandsWhereThere, check_within, is_a_within, required_within, next_within, optional_stands, any_left, ended_within, or_fault_within, time_within}
 use Rattle.cert.proofs.NameFaults.{name_within, general_within, base_within}
-use Rattle.cert.proofs.ExtensionFaults.{der_within, named_within, extensions_within}
+use Rattle.cert.proofs.ExtensionFaults.{KnownStand, der_within, named_within, extensions_within}
+use Rattle.cert.proofs.KeptValues.{none_stand}
 
 -- what was read, and the values behind it
 abbrev Behind : {A : Type 0} → List ℕ → A × Members → Type 0
@@ -124,26 +125,31 @@ subject_within text read left is =
     and_then text (Left text) (Behind text) (unique_id 0x81 read key.1) _ (unique_id_within text 0x81 read key.1 b) (λ issuer_id c.
     and_then text (Left text) (Behind text) (unique_id 0x82 read issuer_id) _ (unique_id_within text 0x82 read issuer_id c) (λ subject_id d. d))))
 
-optional_within : (text : List ℕ) (read : Version) (left : Members) → AreOctets text → Left text left → Within text (Behind text) (optional_extensions read left)
+-- what the extensions say, and the values behind them
+record KnownBehind (text : List ℕ) (read : Extensions × Members) : Type 0 where
+  known : KnownStand text read.0
+  left : Left text read.1
+
+optional_within : (text : List ℕ) (read : Version) (left : Members) → AreOctets text → Left text left → Within text (KnownBehind text) (optional_extensions read left)
 unfolding optional_extensions
 optional_within text read left octets is = let o = optional_stands text 0xA3 left is in by (optional 0xA3 left).0 (optional 0xA3 left).1 o.0 o.1
   where
-    by : (explicit : Option Place) (others : Members) → StandsWhereThere text 0xA3 explicit → Left text others → Within text (Behind text) (extensions_in read explicit others)
-    by None others here rest = rest
+    by : (explicit : Option Place) (others : Members) → StandsWhereThere text 0xA3 explicit → Left text others → Within text (KnownBehind text) (extensions_in read explicit others)
+    by None others here rest = record { known = none_stand text; left = rest }
     by (Some explicit) others here rest =
-        and_then text Any (Behind text) (check_that (is_v3 read) R.Version explicit.at) _ (check_within text (is_v3 read) R.Version explicit.at (begins_at text explicit here.0)) (λ _ _.
-        and_then text (Next text) (Behind text) (next_or R.Layout (members explicit)) _ (next_within text R.Layout (members explicit) (members_left text explicit (ap is_constructed here.1) here.0)) (λ list first.
-        and_then text Any (Behind text) (extensions list.0) _ (extensions_within text list.0 octets first.value) (λ _ _.
-        and_then text Any (Behind text) (ended R.Layout list.1) _ (ended_within text R.Layout list.1 first.left) (λ _ _. rest))))
+        and_then text Any (KnownBehind text) (check_that (is_v3 read) R.Version explicit.at) _ (check_within text (is_v3 read) R.Version explicit.at (begins_at text explicit here.0)) (λ _ _.
+        and_then text (Next text) (KnownBehind text) (next_or R.Layout (members explicit)) _ (next_within text R.Layout (members explicit) (members_left text explicit (ap is_constructed here.1) here.0)) (λ list first.
+        and_then text (KnownStand text) (KnownBehind text) (extensions list.0) _ (extensions_within text list.0 octets first.value) (λ _ known.
+        and_then text Any (KnownBehind text) (ended R.Layout list.1) _ (ended_within text R.Layout list.1 first.left) (λ _ _. record { known = known; left = rest }))))
 
-tbs_within : (text : List ℕ) (value : Place) → AreOctets text → IsEncodedPart text value → Within text Any (tbs_certificate value)
+tbs_within : (text : List ℕ) (value : Place) → AreOctets text → IsEncodedPart text value → Within text (λ tbs. KnownStand text tbs.extensions) (tbs_certificate value)
 unfolding tbs_certificate
 tbs_within text value octets is =
-    and_then text (λ _. tag value ≡ 0x30) Any (is_a 0x30 R.Layout value) _ (is_a_within text 0x30 R.Layout value is) (λ _ sequence.
-    and_then text (Behind text) Any (tbs_head (members value)) _ (head_within text (members value) (members_left text value (ap is_constructed sequence) is)) (λ head a.
-    and_then text (Behind text) Any (tbs_subject head.0.version head.1) _ (subject_within text head.0.version head.1 a) (λ subject b.
-    and_then text (Behind text) Any (optional_extensions head.0.version subject.1) _ (optional_within text head.0.version subject.1 octets b) (λ extensions c.
-    and_then text Any Any (ended R.Layout extensions.1) _ (ended_within text R.Layout extensions.1 c) (λ _ _. tt)))))
+    and_then text (λ _. tag value ≡ 0x30) (λ tbs. KnownStand text tbs.extensions) (is_a 0x30 R.Layout value) _ (is_a_within text 0x30 R.Layout value is) (λ _ sequence.
+    and_then text (Behind text) (λ tbs. KnownStand text tbs.extensions) (tbs_head (members value)) _ (head_within text (members value) (members_left text value (ap is_constructed sequence) is)) (λ head a.
+    and_then text (Behind text) (λ tbs. KnownStand text tbs.extensions) (tbs_subject head.0.version head.1) _ (subject_within text head.0.version head.1 a) (λ subject b.
+    and_then text (KnownBehind text) (λ tbs. KnownStand text tbs.extensions) (optional_extensions head.0.version subject.1) _ (optional_within text head.0.version subject.1 octets b) (λ extensions c.
+    and_then text Any (λ tbs. KnownStand text tbs.extensions) (ended R.Layout extensions.1) _ (ended_within text R.Layout extensions.1 c.left) (λ _ _. c.known)))))
 
 -- the whole
 same_within : (text : List ℕ) (inner : AlgorithmIdentifier) (value : Place) → IsEncodedPart text value → Within text Any (same_algorithm inner value)
@@ -155,15 +161,15 @@ unfolding signature_value
 signature_within text value is =
     and_then text Any Any (check_that (has_no_unused_bits (body value)) R.SignatureBits value.at) _ (check_within text (has_no_unused_bits (body value)) R.SignatureBits value.at (begins_at text value is)) (λ _ _. tt)
 
-at_within : (text : List ℕ) (value : Place) → AreOctets text → IsEncodedPart text value → Within text Any (certificate_at value)
+at_within : (text : List ℕ) (value : Place) → AreOctets text → IsEncodedPart text value → Within text (λ read. KnownStand text read.extensions) (certificate_at value)
 unfolding certificate_at
 at_within text value octets is =
-    and_then text (λ _. tag value ≡ 0x30) Any (is_a 0x30 R.Layout value) _ (is_a_within text 0x30 R.Layout value is) (λ _ sequence.
-    and_then text (Next text) Any (next_or R.Layout (members value)) _ (next_within text R.Layout (members value) (members_left text value (ap is_constructed sequence) is)) (λ signed first.
-    and_then text Any Any (tbs_certificate signed.0) _ (tbs_within text signed.0 octets first.value) (λ tbs _.
-    and_then text (Behind text) Any (component 0x30 (same_algorithm tbs.head.signature) signed.1) _ (component_within text 0x30 (same_algorithm tbs.head.signature) (same_within text tbs.head.signature) signed.1 first.left) (λ algorithm a.
-    and_then text (Behind text) Any (component 0x03 signature_value algorithm.1) _ (component_within text 0x03 signature_value (signature_within text) algorithm.1 a) (λ signature b.
-    and_then text Any Any (ended R.Layout signature.1) _ (ended_within text R.Layout signature.1 b) (λ _ _. tt))))))
+    and_then text (λ _. tag value ≡ 0x30) (λ read. KnownStand text read.extensions) (is_a 0x30 R.Layout value) _ (is_a_within text 0x30 R.Layout value is) (λ _ sequence.
+    and_then text (Next text) (λ read. KnownStand text read.extensions) (next_or R.Layout (members value)) _ (next_within text R.Layout (members value) (members_left text value (ap is_constructed sequence) is)) (λ signed first.
+    and_then text (λ tbs. KnownStand text tbs.extensions) (λ read. KnownStand text read.extensions) (tbs_certificate signed.0) _ (tbs_within text signed.0 octets first.value) (λ tbs known.
+    and_then text (Behind text) (λ read. KnownStand text read.extensions) (component 0x30 (same_algorithm tbs.head.signature) signed.1) _ (component_within text 0x30 (same_algorithm tbs.head.signature) (same_within text tbs.head.signature) signed.1 first.left) (λ algorithm a.
+    and_then text (Behind text) (λ read. KnownStand text read.extensions) (component 0x03 signature_value algorithm.1) _ (component_within text 0x03 signature_value (signature_within text) algorithm.1 a) (λ signature b.
+    and_then text Any (λ read. KnownStand text read.extensions) (ended R.Layout signature.1) _ (ended_within text R.Layout signature.1 b) (λ _ _. known))))))
 
 outermost_within : (text : List ℕ) → AreOctets text → Within text (IsEncodedPart text) (as_der (outermost text))
 unfolding outermost
@@ -179,11 +185,19 @@ outermost_within text octets = der_within text (IsEncodedPart text) (outermost t
         subst (Within text (IsEncodedPart text)) (sym read) (record { stands = record { before = []; behind = []; joined = sym (append-nil text); place = refl }; depth = 1; value = is.0; encodes = is.1 })
     by (Err fault) e = subst (Within text (IsEncodedPart text)) (sym (ap (λ r. placed r whole) e)) (omega (arith, first_fault_within text fault.0 fault.1 e))
 
-pub certificate_fault_is_within : CertificateFaultIsWithin
+whole_within : (text : List ℕ) → AreOctets text → Within text (λ read. KnownStand text read.extensions) (certificate text)
 unfolding certificate
-certificate_fault_is_within text rule at octets e =
-    refused text Any (certificate text) rule at
-    (and_then text (IsEncodedPart text) Any (as_der (outermost text)) _ (outermost_within text octets) (λ value is. at_within text value octets is)) e
+whole_within text octets =
+    and_then text (IsEncodedPart text) (λ read. KnownStand text read.extensions) (as_der (outermost text)) _ (outermost_within text octets) (λ value is. at_within text value octets is)
+
+pub certificate_fault_is_within : CertificateFaultIsWithin
+certificate_fault_is_within text rule at octets e = refused text (λ read. KnownStand text read.extensions) (certificate text) rule at (whole_within text octets) e
+
+pub extension_values_stand : ExtensionValuesStand
+extension_values_stand text read kind value octets e is =
+    let known = subst (Within text (λ read. KnownStand text read.extensions)) e (whole_within text octets) in
+    let there = known kind value is in
+    record { octets = octets; part = there.stands; encoded = (there.depth, there.value, there.encodes) }
 
 pub name_fault_is_within : NameFaultIsWithin
 name_fault_is_within text value fault at is e = refused text Any (name value) fault at (name_within text value (encoded_part text value is)) e

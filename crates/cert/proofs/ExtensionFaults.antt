@@ -20,14 +20,15 @@ use Rattle.cert.specs.declared.extension_kind.ExtensionKind.TheVariants as Kind
 use Rattle.cert.specs.Fault.{as_der, as_name}
 use Rattle.cert.specs.Limit.{has_room}
 use Rattle.cert.specs.Extension.{Extension, extension}
-use Rattle.cert.specs.Extensions.{Taken, nothing_taken, kind_of_extension, saying_of, told_by, one_extension, extensions}
+use Rattle.cert.proofs.KeptValues.{AllStand, all_kept, none_stand}
+use Rattle.cert.specs.Extensions.{Extensions, Taken, nothing_taken, kind_of_extension, saying_of, told_by, one_extension, extensions}
 use Rattle.cert.specs.KeyUsage.{key_usage}
 use Rattle.cert.specs.BasicConstraints.{basic_constraints, is_negative, path_length, path_length_in, saturated}
 use Rattle.cert.specs.AlternativeNames.{has_name_form, one_more_name, alternative_names}
 use Rattle.cert.specs.NameConstraints.{no_bounds, subtree, one_more_subtree, some_subtrees, subtrees, subtrees_in, name_constraints}
 use Rattle.cert.specs.Purposes.{one_more_purpose, purposes}
 use Rattle.cert.proofs.FaultPlaces.{part_ends, part_octets, begins_at, next_begins, Left, members_left}
-use Rattle.cert.proofs.FaultSteps.{Within, Any, and_then, Next, NextIs, StandsWhereThere, check_within, is_a_within, required_within, optional_stands, next_within, ended_within, some_within, default_false_within, each_within}
+use Rattle.cert.proofs.FaultSteps.{Within, Any, and_then, Next, NextIs, StandsWhereThere, check_within, is_a_within, required_within, optional_stands, next_within, ended_within, some_within, default_false_within, each_keeps, each_within}
 use Rattle.cert.proofs.NameFaults.{general_within, base_within}
 
 -- faults of the layers below keep their places
@@ -170,8 +171,11 @@ saying_within text Kind.AlternativeNames value octets is = and_then text Any Any
 saying_within text Kind.BasicConstraints value octets is = and_then text Any Any (basic_constraints value) _ (basic_within text value octets is) (λ _ _. tt)
 saying_within text Kind.NameConstraints value octets is = and_then text Any Any (name_constraints value) _ (constraints_within text value octets is) (λ _ _. tt)
 saying_within text Kind.Purposes value octets is = and_then text Any Any (purposes value) _ (purposes_within text value octets is) (λ _ _. tt)
+saying_within text Kind.DistributionPoints value octets is = tt
 saying_within text Kind.Policies value octets is = tt
-saying_within text Kind.PolicyProcessing value octets is = tt
+saying_within text Kind.PolicyMappings value octets is = tt
+saying_within text Kind.PolicyConstraints value octets is = tt
+saying_within text Kind.InhibitAnyPolicy value octets is = tt
 saying_within text Kind.NoCheck value octets is = tt
 saying_within text Kind.Other value octets is = tt
 
@@ -188,18 +192,27 @@ extension_within text value is =
     and_then text (NextIs text 0x04) (ValueStands text) (required 0x04 R.Layout critical.1) _ (required_within text 0x04 R.Layout critical.1 rest) (λ content last.
     and_then text Any (ValueStands text) (ended R.Layout content.1) _ (ended_within text R.Layout content.1 last.left) (λ _ _. record { value = last.value })))))
 
-one_within : (text : List ℕ) → AreOctets text → (earlier : Taken) (value : Place) → IsEncodedPart text value → Within text Any (one_extension earlier value)
-unfolding one_extension told_by
-one_within text octets earlier value is =
-    and_then text (ValueStands text) Any (extension R.Layout value) _ (extension_within text value is) (λ read stands.
-    and_then text Any Any (check_that (not (contains earlier.types read.oid)) R.ExtensionRepeated value.at) _ (check_within text (not (contains earlier.types read.oid)) R.ExtensionRepeated value.at (begins_at text value is)) (λ _ _.
-    and_then text Any Any (told_by (kind_of_extension read.oid) read.value earlier.told) _
-    (and_then text Any Any (saying_of (kind_of_extension read.oid) read.value) _ (saying_within text (kind_of_extension read.oid) read.value octets stands.value) (λ _ _. tt)) (λ _ _. tt)))
+-- what is known, with values that stand in the text
+abbrev pub KnownStand : List ℕ → Extensions → Type 0
+KnownStand text fields = AllStand text fields.values
 
-pub extensions_within : (text : List ℕ) (value : Place) → AreOctets text → IsEncodedPart text value → Within text Any (extensions value)
+abbrev TakenStand : List ℕ → Taken → Type 0
+TakenStand text taken = KnownStand text taken.told
+
+one_within : (text : List ℕ) → AreOctets text → (earlier : Taken) (value : Place) → TakenStand text earlier → IsEncodedPart text value → Within text (TakenStand text) (one_extension earlier value)
+unfolding one_extension told_by
+one_within text octets earlier value stood is =
+    and_then text (ValueStands text) (TakenStand text) (extension R.Layout value) _ (extension_within text value is) (λ read stands.
+    and_then text Any (TakenStand text) (check_that (not (contains earlier.types read.oid)) R.ExtensionRepeated value.at) _ (check_within text (not (contains earlier.types read.oid)) R.ExtensionRepeated value.at (begins_at text value is)) (λ _ _.
+    and_then text (KnownStand text) (TakenStand text) (told_by (kind_of_extension read.oid) read.value earlier.told) _
+    (and_then text Any (KnownStand text) (saying_of (kind_of_extension read.oid) read.value) _ (saying_within text (kind_of_extension read.oid) read.value octets stands.value)
+    (λ _ _. all_kept text (kind_of_extension read.oid) read.value stands.value earlier.told.values stood)) (λ _ known. known)))
+
+pub extensions_within : (text : List ℕ) (value : Place) → AreOctets text → IsEncodedPart text value → Within text (KnownStand text) (extensions value)
 unfolding extensions
 extensions_within text value octets is =
-    and_then text (λ _. tag value ≡ 0x30) Any (is_a 0x30 R.Layout value) _ (is_a_within text 0x30 R.Layout value is) (λ _ sequence.
+    and_then text (λ _. tag value ≡ 0x30) (KnownStand text) (is_a 0x30 R.Layout value) _ (is_a_within text 0x30 R.Layout value is) (λ _ sequence.
     let left = members_left text value (ap is_constructed sequence) is in
-    and_then text Any Any (some R.Layout (members value)) _ (some_within text R.Layout (members value) left) (λ _ _.
-    and_then text Any Any (each one_extension nothing_taken ((members value).values)) _ (each_within text one_extension (one_within text octets) nothing_taken ((members value).values) left.parts) (λ _ _. tt)))
+    and_then text Any (KnownStand text) (some R.Layout (members value)) _ (some_within text R.Layout (members value) left) (λ _ _.
+    and_then text (TakenStand text) (KnownStand text) (each one_extension nothing_taken ((members value).values)) _
+    (each_keeps text (TakenStand text) one_extension (one_within text octets) nothing_taken ((members value).values) (none_stand text) left.parts) (λ _ known. known)))

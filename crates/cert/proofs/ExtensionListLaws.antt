@@ -10,7 +10,7 @@ use Rattle.asn.proofs.Laws.{bind_ok, ok_is, check_ok, check_again, is_a_ok, is_a
 use Rattle.cert.specs.declared.fault.CertRule.{CertRule}
 use Rattle.cert.specs.declared.fault.CertRule.TheVariants.{Layout, ExtensionRepeated}
 use Rattle.cert.specs.Extension.{Extension, IsExtension}
-use Rattle.cert.specs.Extensions.{Extensions, Taken, nothing_taken, told, noted, kind_of_extension, saying_of, told_by, one_extension, extensions}
+use Rattle.cert.specs.Extensions.{Extensions, Taken, nothing_taken, noted, one_told, kind_of_extension, saying_of, told_by, one_extension, extensions}
 use Rattle.cert.specs.ExtensionForms.{Told, Tells, all_told, AreExtensions}
 use Rattle.cert.proofs.ExtensionLaws.{is_extension, extension_is}
 use Rattle.cert.proofs.Sayings.{saying_ok, saying_again}
@@ -34,7 +34,7 @@ pub record Step (from : Taken) (value : Place) (to : Taken) : Type 0 where
   pub tells : Tells value one
   pub new : contains from.types one.extension.oid ≡ false
   pub types : to.types ≡ insert from.types one.extension.oid
-  pub told_is : to.told ≡ noted one.extension (told one.saying from.told)
+  pub told_is : to.told ≡ one_told one.extension one.saying from.told
 
 false_of : (b : Bool) → not b ≡ true → b ≡ false
 false_of true e = absurd cc
@@ -91,18 +91,18 @@ reads_of from (value ∷ values) to (next, one, others) fits =
 
 abbrev taken_of : Taken → List Told → Taken
 taken_of from [] = from
-taken_of from (one ∷ others) = taken_of (record { types = insert from.types one.extension.oid; told = noted one.extension (told one.saying from.told) }) others
+taken_of from (one ∷ others) = taken_of (record { types = insert from.types one.extension.oid; told = one_told one.extension one.saying from.told }) others
 
 taken_told : (from : Taken) (list : List Told) → (taken_of from list).told ≡ all_told list from.told
 taken_told from [] = refl
-taken_told from (one ∷ others) = taken_told (record { types = insert from.types one.extension.oid; told = noted one.extension (told one.saying from.told) }) others
+taken_told from (one ∷ others) = taken_told (record { types = insert from.types one.extension.oid; told = one_told one.extension one.saying from.told }) others
 
 each_taken : (from : Taken) (values : List Place) (list : List Told) → AllZip Tells values list → AreNew from.types list → AllByRecursion (λ value. AreOctets value.octets) values → each one_extension from values ≡ Ok (taken_of from list)
 each_taken from [] [] zip new fits = refl
 each_taken from [] (one ∷ others) zip new fits = absurd zip
 each_taken from (value ∷ values) [] zip new fits = absurd zip
 each_taken from (value ∷ values) (one ∷ others) zip new fits =
-    let next : Taken = record { types = insert from.types one.extension.oid; told = noted one.extension (told one.saying from.told) } in
+    let next : Taken = record { types = insert from.types one.extension.oid; told = one_told one.extension one.saying from.told } in
     let step = step_again from value next fits.0 record { one = one; tells = zip.0; new = new.0; types = refl; told_is = refl } in
     rw step (each_taken next values others zip.1 new.1 fits.1)
 

@@ -148,6 +148,13 @@ default_false_within {F = F} text fault left is = let o = optional_stands text 0
     by (Some flag) others here rest = one flag others (is_true (body flag)) here.0 rest
 
 -- a walk over values
+-- values that are taken one after the other, where what was taken has the property
+pub each_keeps : {A F : Type 0} (text : List ℕ) (P : A → Type 0) (step : A → Place → Result A (F × ℕ)) → ((so_far : A) (value : Place) → P so_far → IsEncodedPart text value → Within text P (step so_far value))
+    → (start : A) (values : List Place) → P start → AllParts text values → Within text P (each step start values)
+each_keeps text P step one start [] has parts = has
+each_keeps text P step one start (value ∷ values) has parts =
+    and_then text P P (step start value) _ (one start value has parts.0) (λ next is. each_keeps text P step one next values is parts.1)
+
 pub each_within : {A F : Type 0} (text : List ℕ) (step : A → Place → Result A (F × ℕ)) → ((so_far : A) (value : Place) → IsEncodedPart text value → Within text Any (step so_far value))
     → (start : A) (values : List Place) → AllParts text values → Within text Any (each step start values)
 each_within text step one start [] parts = tt

@@ -24,6 +24,8 @@ mod CertificateLaws
 mod FaultPlaces
 mod FaultSteps
 mod NameFaults
+pub mod KeptValues
 mod ExtensionFaults
 mod CertificateFaults
+pub mod StandingValues
 pub mod Laws

@@ -6,6 +6,7 @@ use Rattle.asn.specs.Place.{Place, tag}
 use Rattle.asn.specs.Members.{members}
 use Rattle.cert.specs.Extension.{Extension, IsExtension}
 use Rattle.cert.specs.Extensions.{Extensions, extensions}
+use Rattle.cert.specs.ExtensionValues.{ExtensionValues}
 use Rattle.cert.specs.KeyUsage.{IsKeyUsage}
 use Rattle.cert.specs.AlternativeNames.{AreAlternativeNames}
 use Rattle.cert.specs.BasicConstraints.{BasicConstraints, IsBasicConstraints}
@@ -52,6 +53,22 @@ SaysKeyUsage value field = (bits : List ℕ) × IsKeyUsage value bits × (field 
 abbrev pub SaysBasicConstraints : Place → Option BasicConstraints → Type 0
 SaysBasicConstraints value field = (read : BasicConstraints) × IsBasicConstraints value read × (field ≡ Some read)
 
+-- The value is that of the extension of the type with this number behind id-ce, or there is none of the type.
+abbrev pub IsValueOf : List Extension → ℕ → Option Place → Type 0
+IsValueOf list number field = IsFieldOf list (id_ce number) (λ value field. field ≡ Some value) None field
+
+pub record AreValuesOf (list : List Extension) (values : ExtensionValues) : Type 0 where
+  pub key_usage : IsValueOf list 15 values.key_usage
+  pub alternative_names : IsValueOf list 17 values.alternative_names
+  pub basic_constraints : IsValueOf list 19 values.basic_constraints
+  pub name_constraints : IsValueOf list 30 values.name_constraints
+  pub distribution_points : IsValueOf list 31 values.distribution_points
+  pub policies : IsValueOf list 32 values.policies
+  pub policy_mappings : IsValueOf list 33 values.policy_mappings
+  pub policy_constraints : IsValueOf list 36 values.policy_constraints
+  pub purposes : IsValueOf list 37 values.purposes
+  pub inhibit_any_policy : IsValueOf list 54 values.inhibit_any_policy
+
 pub record AreFieldsOf (list : List Extension) (fields : Extensions) : Type 0 where
   pub key_usage : IsFieldOf list (id_ce 15) SaysKeyUsage None fields.key_usage
   pub alternative_names : IsFieldOf list (id_ce 17) AreAlternativeNames [] fields.alternative_names
@@ -62,6 +79,7 @@ pub record AreFieldsOf (list : List Extension) (fields : Extensions) : Type 0 wh
   pub no_check : (fields.no_check ≡ true) ↔ HasOneOf (λ type. type ≡ id_ocsp_no_check) list
   -- the types of those that are critical and not recognised, in their order
   pub unrecognised : fields.unrecognised ≡ map (λ e. e.oid) (filter (λ e. e.critical && not (has_recognised_type e.oid)) list)
+  pub values : AreValuesOf list fields.values
 
 -- The value is a SEQUENCE of extensions, no two of one type, and these are their fields.
 pub record AreExtensionsByField (value : Place) (fields : Extensions) : Type 0 where

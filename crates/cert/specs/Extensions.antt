@@ -25,6 +25,7 @@ use Rattle.cert.specs.AlternativeNames.{alternative_names}
 use Rattle.cert.specs.NameConstraints.{NameConstraints, name_constraints, seen_name_constraints}
 use Rattle.cert.specs.Purposes.{purposes}
 use Rattle.cert.specs.OidSet.{Oids, oids_in}
+use Rattle.cert.specs.ExtensionValues.{ExtensionValues, kept, no_values, seen_values}
 
 -- id-ce OBJECT IDENTIFIER ::= { joint-iso-ccitt(2) ds(5) 29 }: the number behind it, where an OBJECT IDENTIFIER has one
 unfoldable pub certificate_extension : List ℕ → Option ℕ
@@ -41,11 +42,12 @@ kind_of_number number =
     else (if number == 17 then Kind.AlternativeNames
     else (if number == 19 then Kind.BasicConstraints
     else (if number == 30 then Kind.NameConstraints
+    else (if number == 31 then Kind.DistributionPoints
     else (if number == 32 then Kind.Policies
-    else (if number == 33 then Kind.PolicyProcessing
-    else (if number == 36 then Kind.PolicyProcessing
+    else (if number == 33 then Kind.PolicyMappings
+    else (if number == 36 then Kind.PolicyConstraints
     else (if number == 37 then Kind.Purposes
-    else (if number == 54 then Kind.PolicyProcessing else Kind.Other))))))))
+    else (if number == 54 then Kind.InhibitAnyPolicy else Kind.Other)))))))))
 
 -- id-pkix-ocsp-nocheck (RFC 6960, 4.2.2.2.1): 1.3.6.1.5.5.7.48.1.5
 abbrev pub no_check_oid : List ℕ
@@ -59,8 +61,23 @@ kind_in oid None = if bytes_eq oid no_check_oid then Kind.NoCheck else Kind.Othe
 unfoldable pub kind_of_extension : List ℕ → ExtensionKind
 kind_of_extension oid = kind_in oid (certificate_extension oid)
 
+-- Kinds that policies are processed by (4.2.1.5, 4.2.1.11, 4.2.1.14).
+abbrev pub is_policy_kind : ExtensionKind → Bool
+is_policy_kind Kind.PolicyMappings = true
+is_policy_kind Kind.PolicyConstraints = true
+is_policy_kind Kind.InhibitAnyPolicy = true
+is_policy_kind kind = false
+
+-- Kinds whose values are only kept.
+abbrev pub is_only_kept : ExtensionKind → Bool
+is_only_kept Kind.DistributionPoints = true
+is_only_kept Kind.Policies = true
+is_only_kept Kind.Other = true
+is_only_kept kind = false
+
 -- Kinds that a path is validated by. Others are refused on a path where they are critical (RFC 5280, 4.2).
 abbrev pub is_recognised : ExtensionKind → Bool
+is_recognised Kind.DistributionPoints = false
 is_recognised Kind.NoCheck = false
 is_recognised Kind.Other = false
 is_recognised kind = true
@@ -75,6 +92,7 @@ pub record Extensions : Type 0 where
   pub needs_policy_processing : Bool
   pub no_check : Bool
   pub unrecognised : List (List ℕ)
+  pub values : ExtensionValues
 
 abbrev pub seen_extensions : code.Extensions → Extensions
 seen_extensions read = record {
@@ -86,6 +104,7 @@ seen_extensions read = record {
   needs_policy_processing = read.needs_policy_processing;
   no_check = read.no_check;
   unrecognised = map oid_contents read.unrecognised.items;
+  values = seen_values read.values;
 }
 
 abbrev pub no_extensions : Extensions
@@ -98,6 +117,7 @@ no_extensions = record {
   needs_policy_processing = false;
   no_check = false;
   unrecognised = [];
+  values = no_values;
 }
 
 -- What one extension says.
@@ -118,8 +138,11 @@ saying_of Kind.AlternativeNames value = alternative_names value >>= λ names. Ok
 saying_of Kind.BasicConstraints value = basic_constraints value >>= λ constraints. Ok (basic_constraints_are constraints)
 saying_of Kind.NameConstraints value = name_constraints value >>= λ constraints. Ok (name_constraints_are constraints)
 saying_of Kind.Purposes value = purposes value >>= λ list. Ok (purposes_are list)
+saying_of Kind.DistributionPoints value = Ok says_nothing
 saying_of Kind.Policies value = Ok says_nothing
-saying_of Kind.PolicyProcessing value = Ok policies_are_processed
+saying_of Kind.PolicyMappings value = Ok policies_are_processed
+saying_of Kind.PolicyConstraints value = Ok policies_are_processed
+saying_of Kind.InhibitAnyPolicy value = Ok policies_are_processed
 saying_of Kind.NoCheck value = Ok need_not_be_checked
 saying_of Kind.Other value = Ok says_nothing
 
@@ -162,6 +185,7 @@ told s before = record {
   needs_policy_processing = told_policy s before.needs_policy_processing;
   no_check = told_no_check s before.no_check;
   unrecognised = before.unrecognised;
+  values = before.values;
 }
 
 -- The type of an extension that is critical and not recognised is listed.
@@ -178,11 +202,20 @@ noted e before = record {
   needs_policy_processing = before.needs_policy_processing;
   no_check = before.no_check;
   unrecognised = listed e before.unrecognised;
+  values = before.values;
 }
+
+-- The value of an extension of that kind is kept.
+abbrev pub keeping : ExtensionKind → Place → Extensions → Extensions
+keeping kind value before = record before { values = kept kind value before.values }
 
 -- What is known once the OCTET STRING of an extension of that kind was read.
 unfoldable pub told_by : ExtensionKind → Place → Extensions → Result Extensions (CertRule × ℕ)
-told_by kind value before = saying_of kind value >>= λ s. Ok (told s before)
+told_by kind value before = saying_of kind value >>= λ s. Ok (told s (keeping kind value before))
+
+-- What is known once this extension was read, which says this.
+abbrev pub one_told : Extension → Saying → Extensions → Extensions
+one_told e s before = noted e (told s (keeping (kind_of_extension e.oid) e.value before))
 
 -- The types that were taken, and what their extensions say.
 pub record Taken : Type 0 where

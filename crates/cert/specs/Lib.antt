@@ -9,6 +9,7 @@ pub mod Purposes
 pub mod Limit
 pub mod AlternativeNames
 pub mod NameConstraints
+pub mod ExtensionValues
 pub mod Extensions
 pub mod Version
 pub mod SubjectPublicKeyInfo

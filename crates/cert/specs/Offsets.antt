@@ -1,5 +1,5 @@
 -- The offset of a fault lies in the text, or is its end.
-use Rattle.std.specs.Prelude.{◌≡◌, ◌≤◌, ℕ, List, length, Err}
+use Rattle.std.specs.Prelude.{◌≡◌, ◌≤◌, ℕ, List, length, Some, Ok, Err}
 use Rattle.asn.specs.DerLaws.{AreOctets}
 use Rattle.asn.specs.Part.{IsPartOf, IsEncoded}
 use Rattle.asn.specs.Place.{Place}
@@ -7,7 +7,9 @@ use Rattle.names.specs.NameRule.{NameRule}
 use Rattle.names.specs.NameLayout.{name}
 use Rattle.names.specs.GeneralLayout.{general, base}
 use Rattle.cert.specs.declared.fault.CertRule.{CertRule}
-use Rattle.cert.specs.Certificate.{certificate}
+use Rattle.cert.specs.declared.extension_kind.ExtensionKind.{ExtensionKind}
+use Rattle.cert.specs.ExtensionValues.{value_of}
+use Rattle.cert.specs.Certificate.{Certificate, certificate}
 
 -- a value stands in the text
 pub record StandsIn (text : List ℕ) (value : Place) : Type 0 where
@@ -28,6 +30,12 @@ GeneralNameFaultIsWithin =
 abbrev pub SubtreeFaultIsWithin : Type 0
 SubtreeFaultIsWithin =
     (text : List ℕ) (value : Place) (fault : NameRule) (at : ℕ) → StandsIn text value → base value ≡ Err (fault, at) → at ≤ length text
+
+-- the values of the extensions of a certificate stand in it (4.2)
+abbrev pub ExtensionValuesStand : Type 0
+ExtensionValuesStand =
+    (text : List ℕ) (read : Certificate) (kind : ExtensionKind) (value : Place) → AreOctets text → certificate text ≡ Ok read →
+    value_of kind read.extensions.values ≡ Some value → StandsIn text value
 
 -- a certificate (4.1)
 abbrev pub CertificateFaultIsWithin : Type 0

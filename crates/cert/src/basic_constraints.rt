@@ -1,11 +1,11 @@
 //! basicConstraints: whether a certificate is that of an authority, and how long a path from it may be (RFC 5280, 4.2.1.9).
 
-ghost use Rattle.std.specs.Prelude.{◌≡◌};
 ghost use Rattle.asn.specs.Reading.{StepGives, ReadsAs};
-ghost use Rattle.cert.specs.BasicConstraints.{is_negative, saturated, path_length, basic_constraints, seen_basic_constraints};
+ghost use Rattle.cert.specs.BasicConstraints.{path_length, basic_constraints, seen_basic_constraints};
 
 use crate::contained::contained_value;
 use crate::fault::{CertRefusal, CertRule};
+use crate::number::{is_negative_number, saturated_number};
 use asn::{Cursor, INTEGER, SEQUENCE, Tlv};
 
 /// BasicConstraints ::= SEQUENCE { cA BOOLEAN DEFAULT FALSE, pathLenConstraint INTEGER (0..MAX) OPTIONAL }
@@ -14,27 +14,6 @@ pub struct BasicConstraints {
     pub ca: bool,
     /// The path length: the number, or the greatest `u32` if it is greater.
     pub path_length: Option<u32>,
-}
-
-/// Whether the contents of an INTEGER are those of a negative number.
-fn is_negative_number(contents: &[u8]) -> bool
-    ensures { result ≡ is_negative contents.now }
-{
-    match contents {
-        [] => false,
-        [first, ..] => *first >= 128,
-    }
-}
-
-/// The number that the octets spell in binary, or the greatest `u32` if it is greater.
-fn saturated_number(octets: &[u8]) -> u32
-    ensures { result ≡ saturated octets.now }
-{
-    let mut number: u32 = 0;
-    for octet in octets {
-        number = number.saturating_mul(256).saturating_add(u32::from(*octet));
-    }
-    number
 }
 
 /// The path length, if it is there; else the fault, at it, if it is negative.

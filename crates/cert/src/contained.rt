@@ -9,7 +9,7 @@ use asn::Tlv;
 
 /// The one value that the contents are the encoding of; else the first fault in them, as `Der`, with its offset in the text
 /// handed to `asn::whole`.
-pub(crate) fn contained_value(octet_string: Tlv<'_>) -> Result<Tlv<'_>, CertRefusal>
+pub fn contained_value(octet_string: Tlv<'_>) -> Result<Tlv<'_>, CertRefusal>
     ensures { Gives seen_tlv result (as_der (nested (seen_tlv octet_string.entry))) }
 {
     match octet_string.nested() {

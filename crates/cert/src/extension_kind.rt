@@ -16,10 +16,16 @@ pub enum ExtensionKind {
     NameConstraints,
     /// extKeyUsage (4.2.1.12).
     Purposes,
-    /// certificatePolicies (4.2.1.4), whose value decides nothing here.
+    /// cRLDistributionPoints (4.2.1.13).
+    DistributionPoints,
+    /// certificatePolicies (4.2.1.4).
     Policies,
-    /// policyMappings, policyConstraints or inhibitAnyPolicy (4.2.1.5, 4.2.1.11, 4.2.1.14), which need a policy tree.
-    PolicyProcessing,
+    /// policyMappings (4.2.1.5).
+    PolicyMappings,
+    /// policyConstraints (4.2.1.11).
+    PolicyConstraints,
+    /// inhibitAnyPolicy (4.2.1.14).
+    InhibitAnyPolicy,
     /// id-pkix-ocsp-nocheck (RFC 6960, 4.2.2.2.1).
     NoCheck,
     /// Another.
@@ -51,9 +57,12 @@ impl ExtensionKind {
             Some(17) => ExtensionKind::AlternativeNames,
             Some(19) => ExtensionKind::BasicConstraints,
             Some(30) => ExtensionKind::NameConstraints,
+            Some(31) => ExtensionKind::DistributionPoints,
             Some(32) => ExtensionKind::Policies,
-            Some(33 | 36 | 54) => ExtensionKind::PolicyProcessing,
+            Some(33) => ExtensionKind::PolicyMappings,
+            Some(36) => ExtensionKind::PolicyConstraints,
             Some(37) => ExtensionKind::Purposes,
+            Some(54) => ExtensionKind::InhibitAnyPolicy,
             Some(_) => ExtensionKind::Other,
             None if oid == NO_CHECK => ExtensionKind::NoCheck,
             None => ExtensionKind::Other,
@@ -64,6 +73,9 @@ impl ExtensionKind {
     pub fn is_recognised(self) -> bool
         ensures { result ≡ is_recognised self }
     {
-        !matches!(self, ExtensionKind::NoCheck | ExtensionKind::Other)
+        !matches!(
+            self,
+            ExtensionKind::DistributionPoints | ExtensionKind::NoCheck | ExtensionKind::Other
+        )
     }
 }

@@ -11,6 +11,7 @@ use crate::alternative_names::read_alternative_names;
 use crate::basic_constraints::BasicConstraints;
 use crate::extension::Extension;
 use crate::extension_kind::ExtensionKind;
+use crate::extension_values::ExtensionValues;
 use crate::fault::{CertFault, CertRule};
 use crate::key_usage::KeyUsage;
 use crate::name_constraints::NameConstraints;
@@ -36,6 +37,8 @@ pub struct Extensions<'a> {
     pub no_check: bool,
     /// The types of those that are critical and not recognised, in order.
     pub unrecognised: Vec<Oid<'a>>,
+    /// The values themselves, of which views are made that only some callers need.
+    pub values: ExtensionValues<'a>,
 }
 
 impl<'a> Extensions<'a> {
@@ -55,6 +58,7 @@ impl<'a> Extensions<'a> {
             needs_policy_processing: false,
             no_check: false,
             unrecognised: Vec::new(alloc),
+            values: ExtensionValues::none(),
         }
     }
 
@@ -68,6 +72,7 @@ impl<'a> Extensions<'a> {
     ) -> Result<(), CertFault>
         ensures { TellsExtension kind octet_string.entry self.old self.new result }
     {
+        self.values.keep(kind, octet_string);
         match kind {
             ExtensionKind::KeyUsage => self.key_usage = Some(KeyUsage::read(octet_string)?),
             ExtensionKind::AlternativeNames => {
@@ -80,9 +85,11 @@ impl<'a> Extensions<'a> {
                 self.name_constraints = NameConstraints::read(alloc, octet_string)?;
             }
             ExtensionKind::Purposes => self.purposes = read_purposes(alloc, octet_string)?,
-            ExtensionKind::PolicyProcessing => self.needs_policy_processing = true,
+            ExtensionKind::PolicyMappings
+            | ExtensionKind::PolicyConstraints
+            | ExtensionKind::InhibitAnyPolicy => self.needs_policy_processing = true,
             ExtensionKind::NoCheck => self.no_check = true,
-            ExtensionKind::Policies | ExtensionKind::Other => {}
+            ExtensionKind::DistributionPoints | ExtensionKind::Policies | ExtensionKind::Other => {}
         }
         Ok(())
     }

@@ -2,12 +2,11 @@
 use Rattle.std.proofs.Common.{ℕ, sym, ◌∙◌}
 use Rattle.asn.proofs.Laws.{ok_is}
 use Rattle.cert.specs.declared.fault.CertRule.{CertRule}
-use Rattle.cert_points.specs.OneAnswer.{NamesHaveOneAnswer, NameHasOneAnswer, PointHasOneAnswer, PointsHaveOneAnswer, CertificateHasOneAnswer}
+use Rattle.cert_points.specs.OneAnswer.{NamesHaveOneAnswer, NameHasOneAnswer, PointHasOneAnswer, PointsHaveOneAnswer}
 use Rattle.cert_points.proofs.ListedNames.{names_are}
 use Rattle.cert_points.proofs.ChosenNames.{point_name_is}
 use Rattle.cert_points.proofs.OnePoint.{point_is}
 use Rattle.cert_points.proofs.ManyPoints.{points_are}
-use Rattle.cert_points.proofs.PointsOfCertificate.{points_are_of_extension}
 
 pub names_once : NamesHaveOneAnswer
 names_once value one other is also = ok_is {E = CertRule × ℕ} one other (sym (names_are value one is) ∙ names_are value other also)
@@ -20,7 +19,3 @@ point_once value one other is also = ok_is {E = CertRule × ℕ} one other (sym 
 
 pub points_once : PointsHaveOneAnswer
 points_once value one other is also = ok_is {E = CertRule × ℕ} one other (sym (points_are value one is) ∙ points_are value other also)
-
-pub field_once : CertificateHasOneAnswer
-field_once octets certificate one other fits is say also =
-    ok_is {E = CertRule × ℕ} one other (sym ((points_are_of_extension octets certificate one fits is).1 say) ∙ (points_are_of_extension octets certificate other fits is).1 also)

@@ -9,9 +9,6 @@ mod ChosenNames
 mod OnePoint
 mod ManyPoints
 mod CompletePoints
-mod TaggedExtensions
-mod PointsType
-mod FirstOfType
 mod PointsOfCertificate
 mod FaultSteps
 mod PointFaults

@@ -13,11 +13,10 @@ use Rattle.names.specs.GeneralLayout.{GeneralName, general}
 use Rattle.cert.specs.Fault.{as_der, as_name}
 use Rattle.cert.specs.declared.fault.CertRule.{CertRule}
 use Rattle.cert.specs.declared.fault.CertRule.TheVariants.{ExtensionValue}
-use Rattle.cert.specs.declared.version.Version.{Version}
-use Rattle.cert.specs.Extension.{Extension, IsExtension}
-use Rattle.cert.specs.Extensions.{Extensions}
+use Rattle.cert.specs.declared.extension_kind.ExtensionKind.TheVariants as Kind
+use Rattle.cert.specs.ExtensionValues.{read_if_there}
+use Rattle.cert.proofs.StandingValues.{value_stands}
 use Rattle.cert.specs.Certificate.{Certificate}
-use Rattle.cert.specs.CertificateForms.{AreTaggedExtensions, AreOptionalExtensions}
 use Rattle.cert.specs.Offsets.{GeneralNameFaultIsWithin}
 use Rattle.cert_points.specs.GeneralNames.{any_general_name, constructed_members, general_names}
 use Rattle.cert_points.specs.RelativeName.{type_and_value, relative_name}
@@ -25,12 +24,9 @@ use Rattle.cert_points.specs.PointName.{full_name, relative, chosen_name, point_
 use Rattle.cert_points.specs.ReasonFlags.{is_bit_string, reason_flags}
 use Rattle.cert_points.specs.DistributionPoint.{DistributionPoint, read_found, read_optional, point_members, is_told, distribution_point}
 use Rattle.cert_points.specs.DistributionPoints.{one_more_point, distribution_points}
-use Rattle.cert_points.specs.PointReading.{is_points_type, points_in, certificate_points}
+use Rattle.cert_points.specs.PointReading.{certificate_points, some_points}
 use Rattle.cert_points.specs.Offsets.{PointFaultIsOfValue, PointNameFaultIsWithin}
 use Rattle.cert_points.proofs.FaultSteps.{Left, members_left, Within, Any, and_then, refused, begins_at, value_fault, check_within, is_a_within, Behind, required_within, Next, next_within, StandsWhereThere, optional_stands, ended_within, some_within, each_within, nested_within}
-use Rattle.cert_points.proofs.FirstOfType.{first_of}
-use Rattle.cert_points.proofs.PointsOfCertificate.{extension_in, extensions_told, none_read, list_read}
-use Rattle.cert_points.proofs.TaggedExtensions.{Untagged, fronted}
 
 -- The offset of a fault in a general name stands in its text. This is a law of the layer below, and is handed in.
 abbrev Law : Type 0
@@ -141,58 +137,15 @@ points_within law text value octets is =
     each_within text one_more_point (one_within law text octets) [] ((members inner).values) left.parts)))
 
 -- the extension
-found_within : (law : Law) (text : List ℕ) (found : Option Place) → AreOctets text → StandsWhereThere text found → Within text Any (points_in found)
-found_within law text None octets here = tt
-found_within law text (Some value) octets here = and_then text Any Any (distribution_points value) _ (points_within law text value octets here) (λ _ _. tt)
-
-parts_behind : (text : List ℕ) (front behind : List Place) → AllParts text (front ++ behind) → AllParts text behind
-parts_behind text [] behind parts = parts
-parts_behind text (place ∷ front) behind parts = parts_behind text front behind parts.1
-
-value_stands : (text : List ℕ) (value : Place) (e : Extension) → IsEncodedPart text value → IsExtension value e → IsEncodedPart text e.value
-value_stands text value e stands is =
-    let parts = subst (AllParts text) is.members_are (members_left text value (ap is_constructed is.sequence) stands).parts in
-    (parts_behind text is.flags (e.value ∷ []) parts.1).0
-
-first_stands : (text : List ℕ) (values : List Place) (list : List Extension) → AllZip IsExtension values list → AllParts text values → StandsWhereThere text (first_of list)
-first_stands text [] [] zip parts = tt
-first_stands text [] (e ∷ list) zip parts = absurd zip
-first_stands text (value ∷ values) [] zip parts = absurd zip
-first_stands text (value ∷ values) (e ∷ list) zip parts = by (is_points_type e.oid) (value_stands text value e parts.0 zip.0) (first_stands text values list zip.1 parts.1)
-  where
-    by : (found : Bool) → IsEncodedPart text e.value → StandsWhereThere text (first_of list) → StandsWhereThere text (if found then Some e.value else first_of list)
-    by true here others = here
-    by false here others = others
-
--- the signed part of a certificate
-tagged_within : (law : Law) (text : List ℕ) (tbs explicit : Place) (front : List Place) (version : Version) (found : Extensions) → AreOctets text → tag tbs ≡ 0x30 → IsEncodedPart text tbs → AllByRecursion Untagged front
-    → (members tbs).values ≡ front ++ explicit ∷ [] → AreTaggedExtensions explicit version found → Within text Any (certificate_points tbs)
-tagged_within law text tbs explicit front version found octets sequence stands untagged e is =
-    let values = (members is.list).values in
-    let told = is.extensions_are in
-    let zip = extensions_told values told.list told.each in
-    let explicit_stands = (parts_behind text front (explicit ∷ []) (subst (AllParts text) e (members_left text tbs (ap is_constructed sequence) stands).parts)).0 in
-    let list_stands = (subst (AllParts text) is.members_are (members_left text explicit (ap is_constructed is.explicit) explicit_stands).parts).0 in
-    let walk = list_read tbs explicit is.list front (map extension_in told.list) sequence untagged e is.explicit is.members_are is.sequence zip in
-    let here = first_stands text values (map extension_in told.list) zip (members_left text is.list (ap is_constructed is.sequence) list_stands).parts in
-    subst (Within text Any) (sym walk) (found_within law text (first_of (map extension_in told.list)) octets here)
-
-signed_within : (law : Law) (text : List ℕ) (tbs : Place) (front extensions : List Place) (version : Version) (found : Extensions) → AreOctets text → tag tbs ≡ 0x30 → IsEncodedPart text tbs → AllByRecursion Untagged front
-    → (members tbs).values ≡ front ++ extensions → AreOptionalExtensions extensions version found → Within text Any (certificate_points tbs)
-signed_within law text tbs front [] version found octets sequence stands untagged e are = subst (Within text Any) (sym (none_read tbs front sequence untagged e)) tt
-signed_within law text tbs front (explicit ∷ []) version found octets sequence stands untagged e are = tagged_within law text tbs explicit front version found octets sequence stands untagged e are
-signed_within law text tbs front (explicit ∷ other ∷ values) version found octets sequence stands untagged e are = absurd are
+there_within : (law : Law) (text : List ℕ) (found : Option Place) → AreOctets text → ((value : Place) → found ≡ Some value → IsEncodedPart text value) → Within text Any (read_if_there None some_points found)
+there_within law text None octets stands = tt
+there_within law text (Some value) octets stands = and_then text Any Any (distribution_points value) _ (points_within law text value octets (stands value refl)) (λ _ _. tt)
 
 pub point_fault_is_of_value : GeneralNameFaultIsWithin → PointFaultIsOfValue
+unfolding certificate_points
 point_fault_is_of_value law octets certificate rule at fits is e =
-    let layout = is.layout in
-    let place : Place = record { octets = octets; at = 0 } in
-    let whole : IsEncodedPart octets place = record { stands = record { before = []; behind = []; joined = sym (append-nil octets); place = refl }; depth = 1; value = is.value; encodes = is.der } in
-    let signed_stands = (subst (AllParts octets) layout.members_are (members_left octets place (ap is_constructed layout.sequence) whole).parts).0 in
-    let same : certificate.tbs ≡ layout.signed = ap (λ (c : Certificate). c.tbs) layout.fields_are in
-    let shape = fronted layout.signed layout.tbs layout.signed_is in
-    let within = signed_within law octets layout.signed shape.front layout.signed_is.extensions layout.tbs.head.version layout.tbs.extensions fits layout.signed_sequence signed_stands shape.untagged shape.members_are layout.signed_is.extensions_are in
-    refused octets Any (certificate_points layout.signed) rule at within (ap certificate_points (sym same) ∙ e)
+    let found = certificate.extensions.values.distribution_points in
+    refused octets Any (certificate_points certificate.extensions.values) rule at (there_within law octets found fits (value_stands octets certificate fits is Kind.DistributionPoints)) e
 
 pub name_fault_is_within : GeneralNameFaultIsWithin → PointNameFaultIsWithin
 name_fault_is_within law text value rule at is e =

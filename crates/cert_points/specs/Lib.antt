@@ -13,7 +13,6 @@ pub use Rattle.asn.specs.DerLaws
 pub use Rattle.asn.specs.Place
 pub use Rattle.cert.specs.Certificate
 pub use Rattle.cert.specs.CertificateForms
-pub use Rattle.cert.specs.Extension
-pub use Rattle.cert.specs.ExtensionFields
+pub use Rattle.cert.specs.ExtensionValues
 pub use Rattle.cert.specs.Fault
 pub use Rattle.names.specs.GeneralForms

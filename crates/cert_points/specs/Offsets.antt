@@ -23,7 +23,7 @@ abbrev pub PointFaultIsOfValue : Type 0
 PointFaultIsOfValue =
     (octets : List ℕ) (certificate : Certificate) (rule : CertRule) (at : ℕ) →
     AreOctets octets → IsCertificate octets certificate →
-    certificate_points certificate.tbs ≡ Err (rule, at) → IsOfPoints rule × (at ≤ length octets)
+    certificate_points certificate.extensions.values ≡ Err (rule, at) → IsOfPoints rule × (at ≤ length octets)
 
 -- the same of the name of a point by itself, wherever it stands: also in a list's issuingDistributionPoint (5.2.5)
 abbrev pub PointNameFaultIsWithin : Type 0

@@ -1,9 +1,7 @@
 -- A layout has one reading.
-use Rattle.std.specs.Prelude.{◌≡◌, ℕ, List, Option}
-use Rattle.asn.specs.DerLaws.{AreOctets}
+use Rattle.std.specs.Prelude.{◌≡◌, List, Option}
 use Rattle.asn.specs.Place.{Place}
-use Rattle.cert.specs.Certificate.{Certificate}
-use Rattle.cert.specs.CertificateForms.{IsCertificate}
+use Rattle.cert.specs.ExtensionValues.{ExtensionValues}
 use Rattle.cert_points.specs.GeneralNames.{AreGeneralNames}
 use Rattle.cert_points.specs.PointName.{IsPointName}
 use Rattle.cert_points.specs.DistributionPoint.{DistributionPoint, IsDistributionPoint}
@@ -26,9 +24,8 @@ PointHasOneAnswer = HasOneAnswer IsDistributionPoint
 abbrev pub PointsHaveOneAnswer : Type 0
 PointsHaveOneAnswer = HasOneAnswer AreDistributionPoints
 
--- the same of what the extensions of a certificate say
+-- the same of what the values of extensions say
 abbrev pub CertificateHasOneAnswer : Type 0
 CertificateHasOneAnswer =
-    (octets : List ℕ) (certificate : Certificate) (one other : Option (List DistributionPoint)) →
-    AreOctets octets → IsCertificate octets certificate →
-    SayPoints certificate.tbs one → SayPoints certificate.tbs other → one ≡ other
+    (values : ExtensionValues) (one other : Option (List DistributionPoint)) →
+    SayPoints values one → SayPoints values other → one ≡ other

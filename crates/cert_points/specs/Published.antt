@@ -12,5 +12,5 @@ names_if_found (Some points) = complete_names points
 -- the certificate as it was read, with the names under which lists about it may be published
 pub record HasTakenPoints (read taken : Certificate) : Type 0 where
   pub points : Option (List DistributionPoint)
-  pub are_its : certificate_points read.tbs ≡ Ok points
+  pub are_its : certificate_points read.extensions.values ≡ Ok points
   pub is_taken : taken ≡ record read { points = names_if_found points }

@@ -2,7 +2,6 @@
 #![tactic(auto)]
 
 mod certificate_points;
-mod contained;
 mod distribution_point;
 mod general_names;
 mod layout;

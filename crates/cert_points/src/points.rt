@@ -7,10 +7,9 @@ ghost use Rattle.cert_points.specs.GeneralNames.{octets_of};
 ghost use Rattle.cert_points.specs.DistributionPoints.{all_points, distribution_points, seen_points, seen_point_list, AddsPoint};
 ghost use Rattle.cert_points.specs.CompleteNames.{complete_names, AddsCompleteNames};
 
-use crate::contained::contained_value;
 use crate::distribution_point::DistributionPoint;
 use asn::{Cursor, SEQUENCE, Tlv};
-use cert::{CertFault, CertRule};
+use cert::{CertFault, CertRule, contained_value};
 use std::alloc::{AllocError, Global};
 
 /// CRLDistributionPoints ::= SEQUENCE SIZE (1..MAX) OF DistributionPoint

@@ -32,7 +32,8 @@ pub fn take_points<'a>(alloc: Global, certificate: &mut Certificate<'a>) -> Resu
     ensures taken { OnOk result (HasTakenPoints
         (seen_certificate certificate.old) (seen_certificate certificate.new)) }
     ensures refused { IfErr result (λ fault.
-        FailsUnlessFull fault (certificate_points (seen_certificate certificate.old).tbs)) }
+        FailsUnlessFull fault
+        (certificate_points (seen_certificate certificate.old).extensions.values)) }
     ensures same { IfErr result (λ _. certificate.new ≡ certificate.old) }
 {
     let points = DistributionPoints::read(alloc, certificate)?;

@@ -1,4 +1,3 @@
-mod Saturation
 mod ContainedValues
 mod Places
 mod Numbers
@@ -8,10 +7,6 @@ mod PoliciesLaws
 mod MappingsLaws
 mod AnyPolicyLaws
 mod ConstraintsLaws
-mod PolicyTypes
-mod FieldRuns
-mod PolicyRuns
-mod TaggedExtensions
 mod PolicyFieldLaws
 mod FaultSteps
 mod PolicyFaults

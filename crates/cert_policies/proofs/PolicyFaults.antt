@@ -1,5 +1,5 @@
 -- The faults that are found where the extensions of a certificate that was read are read for what they say of policies.
-use Rattle.std.proofs.Common.{◌≡◌, ℕ, List, [], ◌∷◌, ◌++◌, append-nil, not, Option, Some, None, refl, sym, ap, ◌∙◌, subst, inl, inr, map}
+use Rattle.std.proofs.Common.{Result, ◌≡◌, ℕ, List, [], ◌∷◌, ◌++◌, append-nil, not, Option, Some, None, refl, sym, ap, ◌∙◌, subst, inl, inr, map}
 use Rattle.std.specs.List.{AllZip}
 use Rattle.std.specs.FinSet.{contains}
 use Rattle.asn.specs.DerLaws.{AreOctets}
@@ -9,27 +9,22 @@ use Rattle.asn.specs.Outermost.{nested}
 use Rattle.asn.specs.Place.{Place, tag, body}
 use Rattle.asn.specs.Walk.{check_that, is_a, required, optional, some, ended, each}
 use Rattle.asn.proofs.Laws.{IsEncodedPart, AllParts}
+use Rattle.cert.specs.declared.fault.CertRule.{CertRule}
 use Rattle.cert.specs.Fault.{as_der}
 use Rattle.cert.specs.declared.fault.CertRule.TheVariants.{ExtensionValue}
-use Rattle.cert.specs.declared.version.Version.{Version}
 use Rattle.cert.specs.BasicConstraints.{is_negative}
-use Rattle.cert.specs.Extension.{Extension, IsExtension}
-use Rattle.cert.specs.Extensions.{Extensions}
+use Rattle.cert.specs.declared.extension_kind.ExtensionKind.TheVariants as Kind
+use Rattle.cert.specs.ExtensionValues.{read_if_there}
+use Rattle.cert.proofs.StandingValues.{value_stands}
 use Rattle.cert.specs.Certificate.{Certificate}
-use Rattle.cert.specs.CertificateForms.{AreTaggedExtensions, AreOptionalExtensions}
 use Rattle.cert_policies.specs.PolicyExtensions.{PolicyMapping, PolicyExtensions}
 use Rattle.cert_policies.specs.CertificatePolicies.{policy_information, Stated, none_stated, one_more_policy, certificate_policies}
 use Rattle.cert_policies.specs.PolicyMappings.{policy_mapping, one_more_mapping, policy_mappings}
 use Rattle.cert_policies.specs.PolicyConstraints.{is_skip_count, skip_count, skip_certs_in, skip_certs, policy_constraints}
 use Rattle.cert_policies.specs.InhibitAnyPolicy.{inhibit_any_policy}
-use Rattle.cert_policies.specs.PolicyReading.{no_policy_extensions, told_by, one_extension, policy_extensions}
+use Rattle.cert_policies.specs.PolicyReading.{any_policy_if_there, constraints_if_there, mappings_if_there, no_constraints, policies_if_there, policy_extensions, some_count, some_policies}
 use Rattle.cert_policies.specs.Offsets.{PolicyFaultIsOfValue}
 use Rattle.cert_policies.proofs.FaultSteps.{Left, members_left, Within, Any, and_then, refused, check_within, is_a_within, Behind, required_within, StandsWhereThere, optional_stands, ended_within, some_within, each_within, nested_within}
-use Rattle.cert_policies.proofs.PolicyTypes.{same_type, told_by_type, told_otherwise}
-use Rattle.cert_policies.proofs.PolicyRuns.{reads_one}
-use Rattle.cert_policies.proofs.TaggedExtensions.{Untagged, fronted}
-use Rattle.cert_policies.proofs.PolicyFieldLaws.{extension_in, extensions_told, none_read, list_read}
-use Rattle.std.specs.List.{AllByRecursion}
 
 -- the value inside an OCTET STRING, which is a SEQUENCE
 abbrev IsSequence : Place → Type 0
@@ -115,69 +110,22 @@ any_policy_within text value octets is =
     and_then text (λ _. tag inner ≡ 0x02) Any (is_a 0x02 ExtensionValue inner) _ (is_a_within text 0x02 inner whole) (λ _ _.
     and_then text Any Any (check_that (not (is_negative (body inner))) ExtensionValue inner.at) _ (check_within text (not (is_negative (body inner))) inner whole) (λ _ _. tt)))
 
--- one extension
-abbrev AnyKnown : PolicyExtensions → Type 0
-AnyKnown fields = Unit {0}
-
-told_within : (text : List ℕ) (e : Extension) (before : PolicyExtensions) → AreOctets text → IsEncodedPart text e.value → Within text AnyKnown (told_by e before)
-told_within text e before octets stands = elim (same_type e.oid 32) [
-  | inl is ↦ subst (Within text AnyKnown) (sym (told_by_type e 32 before is)) (and_then text Any AnyKnown (certificate_policies e.value) _ (policies_within text e.value octets stands) (λ _ _. tt))
-  | inr no32 ↦ elim (same_type e.oid 33) [
-    | inl is ↦ subst (Within text AnyKnown) (sym (told_by_type e 33 before is)) (and_then text Any AnyKnown (policy_mappings e.value) _ (mappings_within text e.value octets stands) (λ _ _. tt))
-    | inr no33 ↦ elim (same_type e.oid 36) [
-      | inl is ↦ subst (Within text AnyKnown) (sym (told_by_type e 36 before is)) (and_then text Any AnyKnown (policy_constraints e.value) _ (constraints_within text e.value octets stands) (λ _ _. tt))
-      | inr no36 ↦ elim (same_type e.oid 54) [
-        | inl is ↦ subst (Within text AnyKnown) (sym (told_by_type e 54 before is)) (and_then text Any AnyKnown (inhibit_any_policy e.value) _ (any_policy_within text e.value octets stands) (λ _ _. tt))
-        | inr no54 ↦ subst (Within text AnyKnown) (sym (told_otherwise e before no32 no33 no36 no54)) tt
-      ]
-    ]
-  ]
-]
-
-parts_behind : (text : List ℕ) (front behind : List Place) → AllParts text (front ++ behind) → AllParts text behind
-parts_behind text [] behind parts = parts
-parts_behind text (place ∷ front) behind parts = parts_behind text front behind parts.1
-
-value_stands : (text : List ℕ) (value : Place) (e : Extension) → IsEncodedPart text value → IsExtension value e → IsEncodedPart text e.value
-value_stands text value e stands is =
-    let parts = subst (AllParts text) is.members_are (inside text value is.sequence stands).parts in
-    (parts_behind text is.flags (e.value ∷ []) parts.1).0
-
--- all extensions
-all_within : (text : List ℕ) (values : List Place) (list : List Extension) (before : PolicyExtensions) → AreOctets text → AllZip IsExtension values list → AllParts text values → Within text AnyKnown (each one_extension before values)
-all_within text [] [] before octets zip parts = tt
-all_within text [] (e ∷ list) before octets zip parts = absurd zip
-all_within text (value ∷ values) [] before octets zip parts = absurd zip
-all_within text (value ∷ values) (e ∷ list) before octets zip parts =
-    let told = told_within text e before octets (value_stands text value e parts.0 zip.0) in
-    and_then text AnyKnown AnyKnown (one_extension before value) _ (subst (Within text AnyKnown) (sym (reads_one value e before zip.0)) told)
-    (λ next _. all_within text values list next octets zip.1 parts.1)
-
--- the signed part of a certificate
-tagged_within : (text : List ℕ) (tbs explicit : Place) (front : List Place) (version : Version) (found : Extensions) → AreOctets text → tag tbs ≡ 0x30 → IsEncodedPart text tbs → AllByRecursion Untagged front → (members tbs).values ≡ front ++ explicit ∷ []
-    → AreTaggedExtensions explicit version found → Within text AnyKnown (policy_extensions tbs)
-tagged_within text tbs explicit front version found octets sequence stands untagged e is =
-    let values = (members is.list).values in
-    let told = is.extensions_are in
-    let explicit_stands = (parts_behind text front (explicit ∷ []) (subst (AllParts text) e (inside text tbs sequence stands).parts)).0 in
-    let list_stands = (subst (AllParts text) is.members_are (members_left text explicit (ap is_constructed is.explicit) explicit_stands).parts).0 in
-    let walk = list_read tbs explicit is.list front sequence untagged e is.explicit is.members_are is.sequence in
-    subst (Within text AnyKnown) (sym walk)
-    (all_within text values (map extension_in told.list) no_policy_extensions octets (extensions_told values told.list told.each) (inside text is.list is.sequence list_stands).parts)
-
-signed_within : (text : List ℕ) (tbs : Place) (front extensions : List Place) (version : Version) (found : Extensions) → AreOctets text → tag tbs ≡ 0x30 → IsEncodedPart text tbs → AllByRecursion Untagged front → (members tbs).values ≡ front ++ extensions
-    → AreOptionalExtensions extensions version found → Within text AnyKnown (policy_extensions tbs)
-signed_within text tbs front [] version found octets sequence stands untagged e are = subst (Within text AnyKnown) (sym (none_read tbs front sequence untagged e)) tt
-signed_within text tbs front (explicit ∷ []) version found octets sequence stands untagged e are = tagged_within text tbs explicit front version found octets sequence stands untagged e are
-signed_within text tbs front (explicit ∷ other ∷ values) version found octets sequence stands untagged e are = absurd are
+-- a value that may be there
+there_within : {X : Type 0} (text : List ℕ) (nothing : X) (read : Place → Result X (CertRule × ℕ)) (value : Option Place) → ((there : Place) → value ≡ Some there → Within text Any (read there)) → Within text Any (read_if_there nothing read value)
+there_within text nothing read None one = tt
+there_within text nothing read (Some there) one = one there refl
 
 pub policy_fault_is_of_value : PolicyFaultIsOfValue
+unfolding policy_extensions
 policy_fault_is_of_value octets certificate rule at fits is e =
-    let layout = is.layout in
-    let place : Place = record { octets = octets; at = 0 } in
-    let whole : IsEncodedPart octets place = record { stands = record { before = []; behind = []; joined = sym (append-nil octets); place = refl }; depth = 1; value = is.value; encodes = is.der } in
-    let signed_stands = (subst (AllParts octets) layout.members_are (inside octets place layout.sequence whole).parts).0 in
-    let same : certificate.tbs ≡ layout.signed = ap (λ (c : Certificate). c.tbs) layout.fields_are in
-    let shape = fronted layout.signed layout.tbs layout.signed_is in
-    let within = signed_within octets layout.signed shape.front layout.signed_is.extensions layout.tbs.head.version layout.tbs.extensions fits layout.signed_sequence signed_stands shape.untagged shape.members_are layout.signed_is.extensions_are in
-    refused octets AnyKnown (policy_extensions layout.signed) rule at within (ap policy_extensions (sym same) ∙ e)
+    let values = certificate.extensions.values in
+    let stands = value_stands octets certificate fits is in
+    refused octets Any (policy_extensions values) rule at
+    (and_then octets Any Any (policies_if_there values.policies) _ (there_within octets None some_policies values.policies
+    (λ value is. and_then octets Any Any (certificate_policies value) _ (policies_within octets value fits (stands Kind.Policies value is)) (λ _ _. tt))) (λ policies _.
+    and_then octets Any Any (mappings_if_there values.policy_mappings) _ (there_within octets [] policy_mappings values.policy_mappings
+    (λ value is. mappings_within octets value fits (stands Kind.PolicyMappings value is))) (λ mappings _.
+    and_then octets Any Any (constraints_if_there values.policy_constraints) _ (there_within octets no_constraints policy_constraints values.policy_constraints
+    (λ value is. constraints_within octets value fits (stands Kind.PolicyConstraints value is))) (λ constraints _.
+    and_then octets Any Any (any_policy_if_there values.inhibit_any_policy) _ (there_within octets None some_count values.inhibit_any_policy
+    (λ value is. and_then octets Any Any (inhibit_any_policy value) _ (any_policy_within octets value fits (stands Kind.InhibitAnyPolicy value is)) (λ _ _. tt))) (λ count _. tt))))) e

@@ -12,6 +12,5 @@ pub use Rattle.asn.specs.Oid
 pub use Rattle.asn.specs.Place
 pub use Rattle.cert.specs.Certificate
 pub use Rattle.cert.specs.CertificateForms
-pub use Rattle.cert.specs.Extension
-pub use Rattle.cert.specs.ExtensionFields
+pub use Rattle.cert.specs.ExtensionValues
 pub use Rattle.cert.specs.Fault

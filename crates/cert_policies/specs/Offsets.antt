@@ -16,4 +16,4 @@ IsOfValue rule = (rule ≡ ExtensionValue) ⊎ ((broken : Rule) × (rule ≡ Der
 abbrev pub PolicyFaultIsOfValue : Type 0
 PolicyFaultIsOfValue =
     (octets : List ℕ) (certificate : Certificate) (rule : CertRule) (at : ℕ) → AreOctets octets → IsCertificate octets certificate →
-    policy_extensions certificate.tbs ≡ Err (rule, at) → IsOfValue rule × (at ≤ length octets)
+    policy_extensions certificate.extensions.values ≡ Err (rule, at) → IsOfValue rule × (at ≤ length octets)

@@ -3,10 +3,8 @@
 ghost use Rattle.asn.specs.Reading.{ReadsAs};
 ghost use Rattle.cert_policies.specs.InhibitAnyPolicy.{inhibit_any_policy};
 
-use crate::contained::contained_value;
-use crate::number::{is_negative_number, saturated_number};
 use asn::{INTEGER, Tlv};
-use cert::{CertRefusal, CertRule};
+use cert::{CertRefusal, CertRule, contained_value, is_negative_number, saturated_number};
 
 /// InhibitAnyPolicy ::= SkipCerts
 ///

@@ -3,10 +3,9 @@
 ghost use Rattle.asn.specs.Reading.{ReadsAs, StepGives};
 ghost use Rattle.cert_policies.specs.PolicyConstraints.{skip_count, skip_certs, policy_constraints, seen_policy_constraints};
 
-use crate::contained::contained_value;
-use crate::number::{is_negative_number, is_shortest_number, saturated_number};
+use crate::number::is_shortest_number;
 use asn::{Cursor, SEQUENCE, Tlv};
-use cert::{CertRefusal, CertRule};
+use cert::{CertRefusal, CertRule, contained_value, is_negative_number, saturated_number};
 
 /// PolicyConstraints ::= SEQUENCE { requireExplicitPolicy [0] SkipCerts OPTIONAL, inhibitPolicyMapping [1] SkipCerts OPTIONAL }
 ///

@@ -3,7 +3,6 @@
 
 mod any_policy;
 mod constraints;
-mod contained;
 mod extensions;
 mod layout;
 mod mappings;

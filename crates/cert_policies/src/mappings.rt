@@ -5,9 +5,8 @@ ghost use Rattle.cert.specs.Fault.{GivesUnlessFull, ReadsUnlessFull};
 ghost use Rattle.cert_policies.specs.PolicyExtensions.{seen_mapping, seen_mappings};
 ghost use Rattle.cert_policies.specs.PolicyMappings.{policy_mapping, AddsMapping, all_mappings, policy_mappings};
 
-use crate::contained::contained_value;
 use asn::{Cursor, OBJECT_IDENTIFIER, Oid, SEQUENCE, Tlv};
-use cert::{CertFault, CertRefusal, CertRule};
+use cert::{CertFault, CertRefusal, CertRule, contained_value};
 use std::alloc::Global;
 
 /// SEQUENCE { issuerDomainPolicy CertPolicyId, subjectDomainPolicy CertPolicyId }

@@ -7,9 +7,8 @@ ghost use Rattle.cert.specs.Fault.{GivesUnlessFull, ReadsUnlessFull};
 ghost use Rattle.cert_policies.specs.CertificatePolicies.{policy_information, seen_stated, none_stated, AddsPolicy, all_policies, certificate_policies};
 ghost use Rattle.cert_policies.specs.PolicyExtensions.{seen_policies};
 
-use crate::contained::contained_value;
 use asn::{Cursor, OBJECT_IDENTIFIER, Oid, SEQUENCE, Tlv};
-use cert::{CertFault, CertRefusal, CertRule, OidSet};
+use cert::{CertFault, CertRefusal, CertRule, OidSet, contained_value};
 use std::alloc::Global;
 
 /// PolicyInformation ::= SEQUENCE { policyIdentifier CertPolicyId, policyQualifiers SEQUENCE SIZE (1..MAX) OF PolicyQualifierInfo OPTIONAL }

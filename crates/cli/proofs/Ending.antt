@@ -7,7 +7,7 @@ use Rattle.clap.specs.Words.{Text}
 use Rattle.cli_words.specs.CommandLine.{ReadsLine}
 use Rattle.cli_words.specs.declared.line.Line.{Line}
 use Rattle.cli_words.specs.declared.line.Line.TheVariants.{Tree, Show, Prints, SearchPrints, Deliver, Check, CheckWithPolicies, Compare, Find, List as Listing, Explain, Session}
-use Rattle.cli_lines.proofs.Laws.{whole}
+use Rattle.cli_answers.proofs.Laws.{whole}
 use Rattle.cli_failures.specs.Report.{UnlessLate, report_line, exit_status}
 use Rattle.cli_failures.specs.declared.failure.Failure.{Failure}
 use Rattle.cli_failures.specs.declared.failure.Failure.TheVariants.{Unwritable}

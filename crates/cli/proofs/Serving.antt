@@ -7,12 +7,12 @@ use Rattle.path_verifiers.specs.ListVerifier.{Believes}
 use Rattle.statements_facts.specs.Statement.{Holdings}
 use Rattle.store_maps.specs.Held.{IsStoreOf}
 use Rattle.cli_failures.specs.declared.failure.Failure.{Failure}
-use Rattle.cli_session.specs.Believed.{BelievesJust}
-use Rattle.cli_session.specs.declared.believed.Believed.{Believed}
-use Rattle.cli_session.specs.Held.{holding_of}
-use Rattle.cli_serving.specs.Serving.{HasServedLast, Known, SaysAll, SessionHasEnded, text_of}
-use Rattle.cli_serving.specs.declared.ending.End.{End}
-use Rattle.cli_serving.specs.declared.ending.End.TheVariants.{Quit, Finished, Shut, Unwritable, Unreadable, NoMemory}
+use Rattle.cli_steps.specs.Believed.{BelievesJust}
+use Rattle.cli_steps.specs.declared.believed.Believed.{Believed}
+use Rattle.cli_steps.specs.Held.{holding_of}
+use Rattle.cli_steps.specs.Serving.{HasServedLast, Known, SaysAll, SessionHasEnded, text_of}
+use Rattle.cli_steps.specs.declared.ending.End.{End}
+use Rattle.cli_steps.specs.declared.ending.End.TheVariants.{Quit, Finished, Shut, Unwritable, Unreadable, NoMemory}
 use Rattle.cli_steps.specs.State.{IsState, SessionState as PartyState}
 use Rattle.cli_steps.specs.Ways.{Steps}
 use Rattle.cli_steps.specs.declared.answer.SessionAnswer.{SessionAnswer}

@@ -14,7 +14,7 @@ use Rattle.cli_words.specs.SearchTexts.{seen_search_words}
 use Rattle.cli_words.specs.PolicyTexts.{seen_policy_words}
 use Rattle.cli_words.specs.declared.line.Line.{Line}
 use Rattle.cli_words.specs.declared.line.Line.TheVariants.{Tree, Show, Prints, SearchPrints, Deliver, Check, CheckWithPolicies, Compare, Find, List as Listing, Explain, Session}
-use Rattle.cli_explaining.specs.Topics.{explanation, is_known}
+use Rattle.cli_failures.specs.Topics.{explanation, is_known}
 use Rattle.cli_failures.specs.Failures.{IsNoValue}
 use Rattle.cli_failures.specs.declared.failure.Failure.{Failure}
 use Rattle.cli_failures.specs.declared.failure.Failure.TheVariants.{BadTopic, NoMemory, Unwritable}

@@ -7,10 +7,10 @@ use Rattle.cli_failures.specs.declared.failure.Failure.{Failure}
 use Rattle.cli_failures.specs.declared.failure.Failure.TheVariants.{Unwritable, NoMemory, Shut, NoInput}
 use Rattle.cli_operands.specs.InOrder.{FailsFirst}
 use Rattle.cli_operands.specs.Asked.{HoldsFingerprints, IsFailureOnFingerprints}
-use Rattle.cli_session.specs.Held.{holding_of}
-use Rattle.cli_serving.specs.Serving.{SessionHasEnded}
-use Rattle.cli_serving.specs.declared.ending.End.{End}
-use Rattle.cli_serving.specs.declared.ending.End.TheVariants as ended
+use Rattle.cli_steps.specs.Held.{holding_of}
+use Rattle.cli_steps.specs.Serving.{SessionHasEnded}
+use Rattle.cli_steps.specs.declared.ending.End.{End}
+use Rattle.cli_steps.specs.declared.ending.End.TheVariants as ended
 use Rattle.cli_steps.specs.State.{SessionState}
 use Rattle.cli_store.specs.Standing.{IsFoundOrMade, IsIntact, MakesNoStore, Seen}
 use Rattle.cli.specs.Host.{HostState}

@@ -4,7 +4,7 @@ use Rattle.std.specs.Global.{Vec}
 use Rattle.std.specs.Io.KnownBytes.{Appends, Keeps}
 use Rattle.cli_failures.specs.declared.failure.Failure.{Failure}
 use Rattle.cli_failures.specs.declared.failure.Failure.TheVariants.{Unwritable}
-use Rattle.cli_lines.specs.Fronts.{TakesFront}
+use Rattle.cli_answers.specs.Fronts.{TakesFront}
 
 -- what standard input had left and what standard output took, before the run and behind it, where that is known
 pub record Streams : Type 0 where

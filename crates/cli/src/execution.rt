@@ -13,9 +13,8 @@ use crate::{
     comparison_status, deliver, explain, find, list, search_status, session, verdict_status,
 };
 use clap::error::ErrorKind;
-use cli_answers::{DONE, MISTAKEN};
+use cli_answers::{DONE, MISTAKEN, write_front};
 use cli_failures::{Failure, Source};
-use cli_lines::write_front;
 use cli_showing::{prints, show, tree};
 use cli_steps::search_prints;
 use cli_words::{Line, command_of};

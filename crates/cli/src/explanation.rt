@@ -3,8 +3,7 @@ ghost use Rattle.std.specs.Prelude.{◌≡◌, IfErr, OnOk, map};
 ghost use Rattle.cli_failures.specs.Report.{UnlessLate, WritesText};
 ghost use Rattle.cli.specs.Outcome.{FailsToExplain, IsExplanation};
 
-use cli_explaining::{entries, explain_to, is_known};
-use cli_failures::Failure;
+use cli_failures::{Failure, entries, explain_to, is_known};
 use std::io::Write;
 
 /// Writes what the fault, reason or status of these words means, an entry a line; all entries if there are no words.

@@ -9,9 +9,8 @@ ghost use Rattle.cli.specs.Host.{host};
 ghost use Rattle.cli.specs.Searched.{FailsToFind, IsFailureOfFinding, IsSearched};
 
 use crate::at_path::AtPath;
-use cli_answers::SearchVerdict;
+use cli_answers::{SearchVerdict, write_front};
 use cli_failures::{Failure, Source};
-use cli_lines::write_front;
 use cli_steps::{FoundPath, find_believing};
 use cli_store::Stores;
 use cli_words::SearchWords;

@@ -8,8 +8,8 @@ ghost use Rattle.cli_store.specs.Standing.{IsNoAnswer, IsOpenIfClean, seen_in, t
 ghost use Rattle.cli.specs.Checked.{IsNotChecked};
 ghost use Rattle.cli.specs.Listed.{FailsToList, HasListed, IsFailureOfListing, IsListed, IsListedAt, WritesListing, given};
 
+use cli_answers::write_front;
 use cli_failures::Failure;
-use cli_lines::write_front;
 use cli_operands::read_moment;
 use cli_steps::listing_lines;
 use cli_store::{Stores, failed};

@@ -8,8 +8,8 @@ ghost use Rattle.cli.specs.CheckedPolicies.{FailsToCheckPolicies, IsCheckedWithP
 ghost use Rattle.cli.specs.Host.{host};
 
 use crate::at_path::AtPath;
+use cli_answers::write_front;
 use cli_failures::{Failure, Source};
-use cli_lines::write_front;
 use cli_steps::{PolicyVerdict, check_believing};
 use cli_store::Stores;
 use cli_words::{PolicyWords, QueryWords};

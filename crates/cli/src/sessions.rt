@@ -12,9 +12,7 @@ ghost use Rattle.store_sql.specs.Statements.{IsDurable};
 
 use cli_failures::{Failure, Source};
 use cli_operands::read_fingerprints;
-use cli_serving::{End, serve};
-use cli_session::Believed;
-use cli_steps::Party;
+use cli_steps::{Believed, End, Party, serve};
 use cli_store::{StoreKeeper, Stores};
 use path_verifiers::ListVerifier;
 use sqlite_disk::Disk;
@@ -94,7 +92,7 @@ fn serve_over<D: Disk + Drop, S: Source + Stores<Store<D>>, R: Read, O: Write>(
     end
 }
 
-/// Answers the lines of the input, one after the other, each before the next is read (`cli_serving::serve`), over the store at the path,
+/// Answers the lines of the input, one after the other, each before the next is read (`cli_steps::serve`), over the store at the path,
 /// which is made if no file is there. The fingerprints of the file are believed, and those that come in requests.
 pub fn session<'a, D: Disk + Drop, S: Source + Stores<Store<D>>, R: Read, O: Write>(
     source: &S,

@@ -8,8 +8,7 @@ ghost use Rattle.sqlite_wal.specs.Files.{image_at};
 
 use crate::execution::{answer_of_clap, finish, run};
 use cli_answers::FAILED;
-use cli_failures::Failure;
-use cli_hints::{hint_after_delivery, hint_to};
+use cli_failures::{Failure, hint_after_delivery, hint_to};
 use cli_store::Machine;
 use cli_words::{Line, RunOptions, RunWords, command_of, run_options};
 use sqlite_disk::Start;

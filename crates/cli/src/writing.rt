@@ -2,11 +2,10 @@
 ghost use Rattle.std.specs.Prelude.{OnErr, OnOk};
 ghost use Rattle.std.specs.Io.KnownBytes.{Appends};
 ghost use Rattle.cli_answers.specs.AnswerText.{comparison_line, counts_line, verdict_line};
-ghost use Rattle.cli_lines.specs.Fronts.{TakesFront};
+ghost use Rattle.cli_answers.specs.Fronts.{TakesFront};
 
 use arrayvec::ArrayVec;
-use cli_answers::{comparison_to, counts_to, verdict_to};
-use cli_lines::write_front;
+use cli_answers::{comparison_to, counts_to, verdict_to, write_front};
 use relying_agreement::{Comparison, Verdict};
 use statements_facts::Counts;
 use std::io;

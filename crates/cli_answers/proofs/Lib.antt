@@ -1,0 +1,3 @@
+mod Fronts
+pub mod Laws
+pub mod Reading

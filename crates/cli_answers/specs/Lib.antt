@@ -1,3 +1,5 @@
 pub mod AnswerText
 pub mod Status
 pub mod SearchText
+pub mod Fronts
+pub mod Lines

@@ -3,12 +3,15 @@
 #![tactic(auto)]
 
 mod counted;
+mod lines;
 mod place_lines;
 mod search_verdict;
 mod status;
 mod verdict_lines;
+mod writing;
 
 pub use counted::counts_to;
+pub use lines::{LINE_MOST, LineRead, read_line};
 pub use place_lines::{FilePlace, file_place_to, path_to};
 pub use search_verdict::{SearchVerdict, search_status, search_verdict_to};
 pub use status::{
@@ -16,3 +19,4 @@ pub use status::{
     verdict_status,
 };
 pub use verdict_lines::{comparison_to, verdict_to};
+pub use writing::write_front;

@@ -1,1 +1,3 @@
 mod Pieces
+mod Fronts
+mod Mapping

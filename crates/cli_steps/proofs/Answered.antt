@@ -13,8 +13,8 @@ use Rattle.store_listing.specs.Listing.{seen_held_issuer, seen_listing}
 use Rattle.store_listing.specs.declared.held.Listing.{Listing}
 use Rattle.cli_listing.specs.ListingText.{IdsRise, listing_text}
 use Rattle.cli_operands.specs.Asked.{AcceptsJust, IsBadMoment, IsMomentOf}
-use Rattle.cli_session.specs.Believed.{BelievesJust, accepted_by}
-use Rattle.cli_session.specs.declared.believed.Believed.{Believed}
+use Rattle.cli_steps.specs.Believed.{BelievesJust, accepted_by}
+use Rattle.cli_steps.specs.declared.believed.Believed.{Believed}
 use Rattle.cli_words.specs.PolicyTexts.{PolicyTexts}
 use Rattle.cli_words.specs.QueryTexts.{QueryTexts}
 use Rattle.cli_words.specs.SearchTexts.{SearchTexts}

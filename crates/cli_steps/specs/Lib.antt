@@ -10,3 +10,7 @@ pub mod State
 pub mod Steps
 pub mod Ways
 pub mod WithPolicies
+pub mod Believed
+pub mod Held
+pub mod Crash
+pub mod Serving

@@ -1,8 +1,8 @@
 -- What a session's party believes and keeps.
 use Rattle.std.specs.Prelude.{ℕ, List, ◌∷◌}
 use Rattle.path_verifiers.specs.ListVerifier.{Believes}
-use Rattle.cli_session.specs.Believed.{BelievesJust}
-use Rattle.cli_session.specs.declared.believed.Believed.{Believed}
+use Rattle.cli_steps.specs.Believed.{BelievesJust}
+use Rattle.cli_steps.specs.declared.believed.Believed.{Believed}
 use Rattle.cli_steps.specs.Keeping.{Keeping, Kept}
 
 -- The fingerprints that it believed when the session began and those that it believes now, and the statements that are kept.

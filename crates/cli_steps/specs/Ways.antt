@@ -1,5 +1,5 @@
 -- What is done on the way of a step.
-use Rattle.cli_session.specs.declared.believed.Believed.{Believed}
+use Rattle.cli_steps.specs.declared.believed.Believed.{Believed}
 use Rattle.cli_steps.specs.Keeping.{Keeping}
 use Rattle.cli_steps.specs.State.{IsState, SessionState}
 use Rattle.cli_steps.specs.declared.party.Party.{Party}

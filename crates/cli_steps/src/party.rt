@@ -1,6 +1,6 @@
 //! The party of a session.
 
-use cli_session::Believed;
+use crate::believed::Believed;
 
 /// The party of a session: whom it believes, and who keeps its statements.
 #[derive(Drop)]

@@ -1,7 +1,7 @@
 //! Requests, one at a time.
 ghost use Rattle.std.specs.Prelude.{◌≡◌};
 ghost use Rattle.cli_requests.specs.Requests.{seen_request};
-ghost use Rattle.cli_session.specs.Held.{holding_of};
+ghost use Rattle.cli_steps.specs.Held.{holding_of};
 ghost use Rattle.cli_steps.specs.Steps.{IsStep};
 ghost use Rattle.cli_steps.specs.Ways.{MovesParty};
 
@@ -12,12 +12,12 @@ use crate::delivering::deliver;
 use crate::finding::find;
 use crate::keeper::Keeper;
 use crate::listing::list;
+use crate::operands::OperandSource;
 use crate::party::Party;
 use crate::policy_checking::check_with_policies;
 use crate::printing::{show_prints, show_search_prints};
 use cli_failures::Source;
 use cli_requests::Request;
-use cli_session::OperandSource;
 use std::alloc::Global;
 
 /// Does what the request asks for, and answers it. Where a failure is answered, nothing changes. Operands that name files are read from

@@ -3,8 +3,7 @@
 ghost use Rattle.std.specs.Prelude.{true, []};
 
 use crate::stores::{Stores, open_at, open_or_make_at};
-use cli_failures::{Extent, Failure, Source, StoreRefusal};
-use cli_hints::is_in_use;
+use cli_failures::{Extent, Failure, Source, StoreRefusal, is_in_use};
 use sqlite_disk::{Disk, Start};
 use sqlite_std_file::FileFrom;
 use statements_facts::Profile;

@@ -7,3 +7,7 @@ mod MailLaws
 mod MailTests
 mod UriTests
 pub mod Laws
+mod Search
+mod HostOrder
+mod HostMembers
+mod MailMembers

@@ -1,5 +1,6 @@
 mod Rooms
 mod Deciding
+mod Issuers
 mod Passing
 mod Outcomes
 mod Readings

@@ -2,7 +2,7 @@
 use Rattle.std.proofs.Common.{◌≡◌, ◌≢◌, ◌↔◌, ℕ, Option, None, Some, List, [], ◌++◌, sym, ap, subst, ◌∙◌}
 use Rattle.names_hosts.specs.Laws.{HostsInsideIsExact, SharedHostsAreNested}
 use Rattle.names_hosts.specs.Hosts.{HostNames, IsAmongHosts, AreHostsInside}
-use Rattle.names_hosts_order.specs.HostLists.{HasHost}
+use Rattle.names_hosts.specs.HostLists.{HasHost}
 use Rattle.path_host_constraints.specs.Lists.{Selects, left_of, changed}
 use Rattle.path_host_constraints.specs.HostLists.{SelectsHosts, NarrowsHosts, HostsLieIn, PermitsHostIn, IsNarrowedHosts}
 use Rattle.path_host_constraints.proofs.Narrowed.{Nests, narrowed, lying_in}

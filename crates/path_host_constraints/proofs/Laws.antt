@@ -5,8 +5,8 @@ use Rattle.std.specs.Prelude.{IsTrue}
 use Rattle.std.proofs.lemmas.Bool.{cases_lt, false≢true}
 use Rattle.names_hosts.specs.Hosts.{IsAmongHosts}
 use Rattle.names_hosts.specs.Mail.{IsAmongMail}
-use Rattle.names_hosts_order.specs.HostLists.{HasHost}
-use Rattle.names_hosts_order.specs.MailLists.{HasMail}
+use Rattle.names_hosts.specs.HostLists.{HasHost}
+use Rattle.names_hosts.specs.MailLists.{HasMail}
 use Rattle.cert.specs.CertificateHosts.{CertificateHosts}
 use Rattle.path_host_constraints.specs.MailLists.{PermitsMailIn}
 use Rattle.path_host_constraints.specs.HostLists.{PermitsHostIn, PermitsFound, ExcludesFound}

@@ -2,7 +2,7 @@
 use Rattle.std.proofs.Common.{◌≡◌, ◌≢◌, ◌↔◌, Option, None, Some, List, [], ◌++◌, sym, ap, subst, ◌∙◌}
 use Rattle.names_hosts.specs.Laws.{MailInsideIsExact, SharedMailIsNested}
 use Rattle.names_hosts.specs.Mail.{MailText, MailNames, IsAmongMail, IsMailInside}
-use Rattle.names_hosts_order.specs.MailLists.{HasMail}
+use Rattle.names_hosts.specs.MailLists.{HasMail}
 use Rattle.path_host_constraints.specs.Lists.{Selects, left_of, changed}
 use Rattle.path_host_constraints.specs.MailLists.{SelectsMail, NarrowsMail, MailLieIn, PermitsMailIn, IsNarrowedMail}
 use Rattle.path_host_constraints.proofs.Narrowed.{Nests, narrowed, lying_in}

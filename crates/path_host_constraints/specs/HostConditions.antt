@@ -6,8 +6,8 @@
 -- trust anchor, which constrains nothing (6.1.1 (h) and (i)).
 use Rattle.std.specs.Prelude.{◌≢◌, ◌⊎◌, ◌<◌, ◌≤◌, ℕ, List, [], None, Some, Contains}
 use Rattle.names_hosts.specs.Mail.{MailText}
-use Rattle.names_hosts_order.specs.HostLists.{HasHost}
-use Rattle.names_hosts_order.specs.MailLists.{HasMail}
+use Rattle.names_hosts.specs.HostLists.{HasHost}
+use Rattle.names_hosts.specs.MailLists.{HasMail}
 use Rattle.cert.specs.CertificateHosts.{CertificateHosts}
 
 -- where a certificate has permitted subtrees of mail addresses, the address is among those of one; the same of hosts

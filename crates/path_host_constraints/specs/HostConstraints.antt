@@ -3,8 +3,8 @@
 use Rattle.std.specs.Prelude.{◌≡◌, ◌⊎◌, ◌↔◌, ◌+◌, ◌^◌, ◌<◌, ◌≤◌, ℕ, zero, suc, List, [], Bool, true, false, Option, None, length}
 use Rattle.names_hosts.specs.Hosts.{HostNames}
 use Rattle.names_hosts.specs.Mail.{MailText, MailNames}
-use Rattle.names_hosts_order.specs.HostLists.{HasHost}
-use Rattle.names_hosts_order.specs.MailLists.{HasMail}
+use Rattle.names_hosts.specs.HostLists.{HasHost}
+use Rattle.names_hosts.specs.MailLists.{HasMail}
 use Rattle.cert.specs.CertificateHosts.{CertificateHosts}
 use Rattle.path_host_constraints.specs.Lists.{size_of}
 use Rattle.path_host_constraints.specs.MailLists.{PermitsMailIn, PermitsAllMail, ExcludesNoMail, IsNarrowedMail}

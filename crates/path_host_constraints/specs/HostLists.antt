@@ -1,7 +1,7 @@
 -- Lists of bases on the hosts of URIs, narrowed and joined (RFC 5280, 6.1.4 (g)), and what they say of hosts.
 use Rattle.std.specs.Prelude.{◌≢◌, ◌↔◌, ℕ, List, [], Bool, true, false, Option, None, Some, Contains}
 use Rattle.names_hosts.specs.Hosts.{HostNames, IsAmongHosts, AreHostsInside}
-use Rattle.names_hosts_order.specs.HostLists.{HasHost, HoldsHosts}
+use Rattle.names_hosts.specs.HostLists.{HasHost, HoldsHosts}
 use Rattle.path_host_constraints.specs.Lists.{Selects, TakesIf, PermitsIn}
 
 -- the base is inside one of the first bases, and in none of the others

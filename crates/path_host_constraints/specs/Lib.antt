@@ -8,5 +8,5 @@ pub mod Laws
 pub use Rattle.cert.specs.CertificateHosts
 pub use Rattle.names_hosts.specs.Hosts
 pub use Rattle.names_hosts.specs.Mail
-pub use Rattle.names_hosts_order.specs.HostLists as HostBases
-pub use Rattle.names_hosts_order.specs.MailLists as MailBases
+pub use Rattle.names_hosts.specs.HostLists as HostBases
+pub use Rattle.names_hosts.specs.MailLists as MailBases

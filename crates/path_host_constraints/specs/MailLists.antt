@@ -1,7 +1,7 @@
 -- Lists of bases on mail addresses, narrowed and joined (RFC 5280, 6.1.4 (g)), and what they say of mail addresses.
 use Rattle.std.specs.Prelude.{◌≢◌, ◌↔◌, List, [], Bool, true, false, Option, Contains}
 use Rattle.names_hosts.specs.Mail.{MailText, MailNames, IsAmongMail, IsMailInside}
-use Rattle.names_hosts_order.specs.MailLists.{HasMail, HoldsMail}
+use Rattle.names_hosts.specs.MailLists.{HasMail, HoldsMail}
 use Rattle.path_host_constraints.specs.Lists.{Selects, TakesIf, PermitsIn}
 
 -- the base is inside one of the first bases, and in none of the others

@@ -11,7 +11,7 @@ use crate::host_lists::{
 use crate::indexes::{put, replace};
 use crate::mail_lists::{count_mail, excludes_no_mail, join_mail, narrow_mail, permits_all_mail};
 use cert::CertificateHosts;
-use names_hosts_order::{HostIndex, MailIndex};
+use names_hosts::{HostIndex, MailIndex};
 use std::alloc::{AllocError, Global};
 use std::marker::Model;
 

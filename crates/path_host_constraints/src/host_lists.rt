@@ -3,14 +3,13 @@
 ghost use Rattle.std.specs.Prelude.{◌≡◌, ◌↔◌, ◌≤◌, ◌<◌, ◌+◌, ◌^◌, ◌++◌, [], ℕ, List, IsTrue, IfOk, OnOk, length, map};
 ghost use Rattle.std.specs.Option.{option_copied};
 ghost use Rattle.names_hosts.specs.Hosts.{host_names};
-ghost use Rattle.names_hosts_order.specs.HostLists.{HasHost};
+ghost use Rattle.names_hosts.specs.HostLists.{HasHost};
 ghost use Rattle.path_host_constraints.specs.HostLists.{Enters, TakesHostsIf, SelectsHosts, NarrowsHosts, HostsLieIn, PermitsHostIn, PermitsFound, PermitsAllHosts, IsNarrowedHosts, ExcludesFound, ExcludesNoHost, HasEachHost};
 ghost use Rattle.path_host_constraints.specs.Lists.{members_of, left_of, changed, size_of};
 ghost use Rattle.path_host_constraints.specs.Indexes.{with_joined};
 
 use crate::indexes::Joined;
-use names_hosts::{HostBase, host_laws};
-use names_hosts_order::HostIndex;
+use names_hosts::{HostBase, HostIndex, host_laws};
 use std::alloc::{AllocError, Global};
 
 /// Whether the base lies in one of these, and in none of those.

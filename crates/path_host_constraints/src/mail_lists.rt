@@ -2,14 +2,13 @@
 
 ghost use Rattle.std.specs.Prelude.{◌≡◌, ◌↔◌, ◌≤◌, ◌<◌, ◌+◌, ◌^◌, ◌++◌, [], List, IsTrue, IfOk, OnOk, length, map};
 ghost use Rattle.names_hosts.specs.Mail.{MailText, mail_text, mail_names};
-ghost use Rattle.names_hosts_order.specs.MailLists.{HasMail};
+ghost use Rattle.names_hosts.specs.MailLists.{HasMail};
 ghost use Rattle.path_host_constraints.specs.MailLists.{Enters, TakesMailIf, SelectsMail, NarrowsMail, MailLieIn, PermitsMailIn, PermitsAllMail, IsNarrowedMail, ExcludesNoMail};
 ghost use Rattle.path_host_constraints.specs.Lists.{members_of, left_of, changed, size_of};
 ghost use Rattle.path_host_constraints.specs.Indexes.{with_joined};
 
 use crate::indexes::Joined;
-use names_hosts::{MailBase, MailName, mail_laws};
-use names_hosts_order::MailIndex;
+use names_hosts::{MailBase, MailIndex, MailName, mail_laws};
 use std::alloc::{AllocError, Global};
 
 /// Whether the base lies in one of these, and in none of those.

@@ -11,6 +11,10 @@ pub mod Walk
 pub mod Outcome
 pub mod Progress
 pub mod State
+pub mod Nodes
+pub mod Tree
+pub mod Intersection
+pub mod TreeLaws
 pub use Rattle.cert_policies.specs.PolicyExtensions
 pub use Rattle.cert.specs.Certificate
 pub use Rattle.cert_policies.specs.PolicyReading

@@ -13,7 +13,7 @@ use Rattle.path_policies.specs.Seen.{seen_policy_certificate}
 
 -- whether it is self-issued, and what its extensions say of policies
 unfoldable pub policy_certificate : Certificate → Result PolicyCertificate (CertRule × ℕ)
-policy_certificate c = policy_extensions c.tbs >>= λ extensions. Ok (record { self_issued = is_self_issued c; extensions = extensions })
+policy_certificate c = policy_extensions c.extensions.values >>= λ extensions. Ok (record { self_issued = is_self_issued c; extensions = extensions })
 
 -- the first of the certificates, so many, give these
 pub record AreTaken (certificates : List code.Certificate) (count : ℕ) (read : List taken.PolicyCertificate) : Type 0 where

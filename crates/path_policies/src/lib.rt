@@ -13,6 +13,7 @@ mod processing;
 mod query;
 mod reason;
 mod state;
+mod tree;
 mod walk;
 
 pub use policy::ANY_POLICY;
@@ -20,3 +21,4 @@ pub use processing::{policy_outcome_laws, process_policies};
 pub use query::{PolicyCertificate, PolicyQuery, policy_certificates};
 pub use reason::{PolicyOutcome, PolicyReason, PolicySets};
 pub use state::{PolicyState, PolicyStep};
+pub use tree::tree_laws;

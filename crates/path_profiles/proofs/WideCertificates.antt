@@ -52,11 +52,11 @@ unfolding with_hosts
 hosted_is between taken has = rw has.are_its (ap (λ (c : Certificate). Ok c) (sym has.is_taken))
 
 -- one whose points are refused
-pub points_refused : (octets : List ℕ) (read : Certificate) (fault : CertFault) → certificate octets ≡ Ok read → FailsUnlessFull fault (certificate_points read.tbs) → FailsUnlessFull fault (wide_certificate octets)
+pub points_refused : (octets : List ℕ) (read : Certificate) (fault : CertFault) → certificate octets ≡ Ok read → FailsUnlessFull fault (certificate_points read.extensions.values) → FailsUnlessFull fault (wide_certificate octets)
 unfolding wide_certificate widened with_points
 points_refused octets read fault e fails =
-    rw e (fails_first fault (certificate_points read.tbs >>= λ points. Ok (pointed read points)) (λ between. with_hosts between)
-    (fails_first fault (certificate_points read.tbs) (λ points. Ok (pointed read points)) fails))
+    rw e (fails_first fault (certificate_points read.extensions.values >>= λ points. Ok (pointed read points)) (λ between. with_hosts between)
+    (fails_first fault (certificate_points read.extensions.values) (λ points. Ok (pointed read points)) fails))
 
 -- one whose mail addresses and hosts are
 pub hosts_refused : (octets : List ℕ) (read between : Certificate) (fault : CertFault) → certificate octets ≡ Ok read → HasTakenPoints read between → FailsUnlessFull fault (certificate_hosts between.tbs)
@@ -75,7 +75,7 @@ taken octets read between now e points hosts = rw (e, pointed_is read between po
 points_were : (read between : Certificate) → with_points read ≡ Ok between → HasTakenPoints read between
 unfolding with_points
 points_were read between e =
-    let walk = bind_ok (certificate_points read.tbs) (λ points. Ok (pointed read points)) between e in
+    let walk = bind_ok (certificate_points read.extensions.values) (λ points. Ok (pointed read points)) between e in
     record { points = walk.0; are_its = walk.1; is_taken = sym (ok_is {E = CertRule × ℕ} (pointed read walk.0) between walk.2) }
 
 hosts_were : (between now : Certificate) → with_hosts between ≡ Ok now → HasTakenHosts between now
@@ -118,14 +118,14 @@ for_hosts : (between : Certificate) (fault : CertRule × ℕ) → with_hosts bet
 unfolding with_hosts
 for_hosts between fault e = hosts_fault between (certificate_hosts between.tbs) fault e
 
-for_either : (read : Certificate) (fault : CertRule × ℕ) (points : Read Points) → certificate_points read.tbs ≡ points → ((points >>= λ found. Ok (pointed read found)) >>= λ between. with_hosts between) ≡ Err fault
+for_either : (read : Certificate) (fault : CertRule × ℕ) (points : Read Points) → certificate_points read.extensions.values ≡ points → ((points >>= λ found. Ok (pointed read found)) >>= λ between. with_hosts between) ≡ Err fault
     → IsWideFault read fault
 for_either read fault (Ok found) is e = inr (ap is_ok is, for_hosts (pointed read found) fault e)
 for_either read fault (Err first) is e = inl (is ∙ cc)
 
 own_fault : (read : Certificate) (fault : CertRule × ℕ) → widened read ≡ Err fault → IsWideFault read fault
 unfolding widened with_points
-own_fault read fault e = for_either read fault (certificate_points read.tbs) refl e
+own_fault read fault e = for_either read fault (certificate_points read.extensions.values) refl e
 
 pub for_own : (octets : List ℕ) (read : Certificate) (fault : CertRule × ℕ) → certificate octets ≡ Ok read → wide_certificate octets ≡ Err fault → IsWideFault read fault
 unfolding wide_certificate

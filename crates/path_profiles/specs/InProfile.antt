@@ -22,7 +22,7 @@ abbrev pub pointed : Certificate → Option (List DistributionPoint) → Certifi
 pointed read points = record read { points = names_if_found points }
 
 unfoldable pub with_points : Certificate → Result Certificate (CertRule × ℕ)
-with_points read = certificate_points read.tbs >>= λ points. Ok (pointed read points)
+with_points read = certificate_points read.extensions.values >>= λ points. Ok (pointed read points)
 
 -- and with what it says of mail addresses and hosts
 unfoldable pub with_hosts : Certificate → Result Certificate (CertRule × ℕ)
@@ -46,7 +46,7 @@ pub record IsWideCertificate (octets : List ℕ) (fields : Certificate) : Type 0
   pub points : Option (List DistributionPoint)
   pub hosts : CertificateHosts
   pub is_certificate : IsCertificate octets read
-  pub say : SayPoints read.tbs points
+  pub say : SayPoints read.extensions.values points
   pub says : SaysHosts read.tbs hosts
   pub fields_are : fields ≡ hosted (pointed read points) hosts
 
@@ -75,8 +75,8 @@ pub record IsWidened (read taken : Certificate) : Type 0 where
 -- mail addresses and hosts
 abbrev pub IsWideFault : Certificate → CertRule × ℕ → Type 0
 IsWideFault read fault =
-    (certificate_points read.tbs ≡ Err fault)
-    ⊎ (IsOk (certificate_points read.tbs) × (certificate_hosts read.tbs ≡ Err fault))
+    (certificate_points read.extensions.values ≡ Err fault)
+    ⊎ (IsOk (certificate_points read.extensions.values) × (certificate_hosts read.tbs ≡ Err fault))
 
 -- What the wide profile answers, by what the stated one does: the same refusal; or the same certificate, with its points and hosts; or a
 -- refusal for these alone.

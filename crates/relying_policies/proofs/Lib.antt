@@ -1,2 +1,4 @@
 pub mod Laws
 mod Joining
+mod Downward
+mod Found

@@ -17,8 +17,8 @@ use Rattle.relying_questions.specs.Questions.{Judgement, of_certificate, asked_o
 use Rattle.relying_questions.specs.Seen.{asked_of_link, asked_of_links, asked_of_option, asked_of_value, issuer_of_link, issuers_of_links, seen_all}
 use Rattle.path.specs.Query.{Query}
 use Rattle.relying_agreement.specs.Link.{Link, links_of}
-use Rattle.relying_evidence.specs.View.{seen_link}
-use Rattle.relying_evidence.specs.declared.link.Link as linked
+use Rattle.relying_search.specs.View.{seen_link}
+use Rattle.relying_search.specs.declared.link.Link as linked
 use Rattle.relying_texts.specs.Texts.{issuers_of}
 use Rattle.relying_questions.specs.declared.question.SignatureQuestion.{SignatureQuestion}
 

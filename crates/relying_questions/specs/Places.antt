@@ -16,8 +16,8 @@ use Rattle.statements.specs.Statement.{Statement, statement_under}
 use Rattle.statements_crl.specs.CertificateList.{CertificateList}
 use Rattle.statements_ocsp.specs.OcspResponse.{OcspResponse}
 use Rattle.relying_agreement.specs.Link.{Link}
-use Rattle.relying_evidence.specs.View.{seen_link}
-use Rattle.relying_evidence.specs.declared.link.Link as linked
+use Rattle.relying_search.specs.View.{seen_link}
+use Rattle.relying_search.specs.declared.link.Link as linked
 use Rattle.relying_questions.specs.declared.question.SignatureQuestion as asked
 use Rattle.relying_questions.specs.declared.part.TextPart as part
 use Rattle.relying_questions.specs.declared.part.WhichText.{WhichText}

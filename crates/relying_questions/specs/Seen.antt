@@ -10,7 +10,7 @@ use Rattle.statements_ocsp.specs.OcspResponse.{OcspResponse, seen_response}
 use Rattle.statements_ocsp.specs.declared.response.Response as response
 use Rattle.statements.specs.Statement.{seen_statement}
 use Rattle.statements.specs.declared.statement.Statement as code_statement
-use Rattle.relying_evidence.specs.declared.link.Link as linked
+use Rattle.relying_search.specs.declared.link.Link as linked
 use Rattle.relying_questions.specs.Places.{placed_certificate}
 use Rattle.relying_questions.specs.Questions.{Judgement, of_certificate, asked_of_issuer, asked_of_list, asked_of_delegate, asked_of_response, asked_under}
 use Rattle.relying_questions.specs.declared.question.SignatureQuestion as code

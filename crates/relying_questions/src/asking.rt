@@ -3,7 +3,7 @@
 ghost use Rattle.std.specs.Prelude.{◌≡◌, IfOk, map};
 ghost use Rattle.path.specs.Reading.{seen_query};
 ghost use Rattle.statements.specs.Statement.{seen_statement};
-ghost use Rattle.relying_evidence.specs.View.{seen_link};
+ghost use Rattle.relying_search.specs.View.{seen_link};
 ghost use Rattle.relying_questions.specs.Agreement.{DecideVerdict};
 ghost use Rattle.relying_questions.specs.Places.{ArePlaced, IsPlaced, KeepsInTexts, LinkStands, LinksStand, StandWhereRead, Texts, placed_certificate, placed_certificates};
 ghost use Rattle.relying_questions.specs.Questions.{questions_of};
@@ -15,7 +15,7 @@ use crate::question::SignatureQuestion;
 use crate::signatures::of_certificate;
 use crate::under_issuers::ask_statements;
 use path::Query;
-use relying_evidence::{Link, links_of};
+use relying_search::{Link, links_of};
 use statements::{Statement, statement_profile_laws};
 use std::alloc::{AllocError, Global};
 

@@ -2,3 +2,8 @@ mod Standing
 mod Same
 mod Downward
 pub mod Laws
+mod AmongStanding
+mod AmongSame
+mod Every
+mod Ending
+pub mod AmongLaws

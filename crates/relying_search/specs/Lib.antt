@@ -1,7 +1,13 @@
 pub mod Finding
 pub mod Asked
 pub mod Agreement
+pub mod View
+pub mod Among
+pub mod AskedAmong
+pub mod Filter
 pub use Rattle.path_issuers.specs.Search
 pub use Rattle.path_search.specs.Answer
 pub use Rattle.relying_agreement.specs.Verdict
 pub use Rattle.path_search.specs.Paths
+pub use Rattle.relying_agreement.specs.Link
+pub use Rattle.relying_agreement.specs.Status

@@ -5,10 +5,10 @@ ghost use Rattle.path_search.specs.Answer.{seen_candidate};
 ghost use Rattle.path_issuers.specs.View.{seen_search};
 ghost use Rattle.path_issuers.specs.Search.{query_about};
 ghost use Rattle.relying_agreement.specs.Link.{links_of};
-ghost use Rattle.relying_evidence.specs.View.{seen_link};
+ghost use Rattle.relying_search.specs.View.{seen_link};
 
+use crate::link::Link;
 use path_search::{Candidate, Issuer, Search};
-use relying_evidence::Link;
 use std::alloc::{AllocError, Global};
 
 /// The certificates of the candidate's path below the anchor, each with the one above it, from the anchor downward.

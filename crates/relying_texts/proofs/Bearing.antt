@@ -22,7 +22,7 @@ use Rattle.path.specs.Query.{Query, Accepts}
 use Rattle.cert.specs.Certificate.{Certificate}
 use Rattle.statements.specs.Statement.{Statement}
 use Rattle.relying_texts.specs.Texts.{facts_told, evidence_told}
-use Rattle.relying_evidence.specs.View.{seen_lists}
+use Rattle.relying_search.specs.View.{seen_lists}
 use Rattle.relying_texts.specs.Told.{AreToldUpTo, all_lists_told, list_told, lists_told, response_told}
 use Rattle.relying_texts.specs.View.{held_of}
 

@@ -19,8 +19,8 @@ use Rattle.statements.specs.Issuer.{identity_of}
 use Rattle.statements.specs.CrlFact.{fact_of_list}
 use Rattle.statements.specs.OcspFact.{fact_with}
 use Rattle.relying_agreement.specs.Link.{Link}
-use Rattle.relying_evidence.specs.View.{seen_link}
-use Rattle.relying_evidence.specs.declared.link.Link as linked
+use Rattle.relying_search.specs.View.{seen_link}
+use Rattle.relying_search.specs.declared.link.Link as linked
 use Rattle.relying_texts.specs.declared.contents.Contents.{Contents}
 use Rattle.relying_texts.specs.declared.contents.Contents.TheVariants as C
 use Rattle.relying_texts.specs.declared.contents.GenuineStatement as genuine

@@ -7,7 +7,7 @@ ghost use Rattle.path_issuers.specs.Search.{IsValidCandidate};
 ghost use Rattle.statements.specs.Statement.{seen_statement};
 ghost use Rattle.relying_agreement.specs.Status.{evidence_of};
 ghost use Rattle.relying_agreement.specs.Verdict.{verdict_by};
-ghost use Rattle.relying_evidence.specs.View.{seen_link};
+ghost use Rattle.relying_search.specs.View.{seen_link};
 ghost use Rattle.relying_search.specs.Asked.{Steps};
 ghost use Rattle.relying_search.specs.Finding.{HasVerdict, IsFinding, seen_finding};
 ghost use Rattle.relying_texts.specs.Texts.{held_for};
@@ -19,8 +19,7 @@ use crate::verdicts::verdict_on;
 use path_search::{Answer, Candidate, Paths, Search};
 use path_verifiers::Verifier;
 use relying_agreement::Verdict;
-use relying_evidence::Link;
-use relying_search::{Asked, Finding, FindingBudget, links_of_candidate};
+use relying_search::{Asked, Finding, FindingBudget, Link, links_of_candidate};
 use statements::Statement;
 use std::alloc::{AllocError, Global};
 

@@ -8,7 +8,7 @@ ghost use Rattle.relying_texts.specs.View.{facts_if_some, facts_in_all, identity
 use crate::contents::{Contents, GenuineStatement, contents_under};
 use cert::Certificate;
 use path_verifiers::Verifier;
-use relying_evidence::Link;
+use relying_search::Link;
 use statements::Statement;
 use std::alloc::{AllocError, Global};
 

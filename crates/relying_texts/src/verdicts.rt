@@ -5,7 +5,7 @@ ghost use Rattle.std.specs.Prelude.{◌≡◌, ◌++◌, IfOk, OnErr, OnOk, None
 ghost use Rattle.std.specs.Option.{option_or};
 ghost use Rattle.relying_agreement.specs.Status.{deciding_reason, evidence_of, is_covered_by};
 ghost use Rattle.relying_agreement.specs.Verdict.{verdict_by};
-ghost use Rattle.relying_evidence.specs.View.{seen_evidence, seen_link, seen_lists};
+ghost use Rattle.relying_search.specs.View.{seen_evidence, seen_link, seen_lists};
 ghost use Rattle.statements_facts.specs.Answer.{seen_ocsp};
 ghost use Rattle.path.specs.Reading.{seen_query};
 ghost use Rattle.statements.specs.Statement.{seen_statement};
@@ -20,7 +20,7 @@ use crate::responses::response_answer;
 use path::{Outcome, Query, validate};
 use path_verifiers::Verifier;
 use relying_agreement::Verdict;
-use relying_evidence::{Evidence, Link, links_of, may_sign_crls, own_scope};
+use relying_search::{Evidence, Link, links_of, may_sign_crls, own_scope};
 use sha1::Sha1;
 use statements::Statement;
 use statements_facts::{CrlAnswer, OcspAnswer, Scope};

@@ -13,8 +13,8 @@ use Rattle.statements.specs.Issuer.{identity_of}
 use Rattle.relying_agreement.specs.Link.{Link, list_slots, own_scope}
 use Rattle.relying_agreement.specs.Status.{evidence_of, may_sign_crls, list_held, answers_held}
 use Rattle.relying_agreement.proofs.Laws.{place_by_place}
-use Rattle.relying_evidence.specs.declared.evidence.Evidence as known
-use Rattle.relying_evidence.specs.View.{seen_evidence, seen_lists}
+use Rattle.relying_search.specs.declared.evidence.Evidence as known
+use Rattle.relying_search.specs.View.{seen_evidence, seen_lists}
 use Rattle.relying_verdicts.specs.Found.{AreAnswersOn, AreListsAt, IsAssembled, lists_in}
 
 pub answers_are : (held : Holdings) (issuer : IssuerIdentity) (certificate : Certificate) (kind : Scope) (serial hash : List ℕ) (answers : listed.Answers)

@@ -14,8 +14,8 @@ use Rattle.relying_agreement.specs.Link.{Link, links_of}
 use Rattle.relying_agreement.specs.Status.{Answers, Evidence, evidence_of, may_sign_crls}
 use Rattle.relying_agreement.specs.Verdict.{verdict_by, evidence_on}
 use Rattle.relying_agreement.specs.Comparison.{IsFirstDifference, IsComparison}
-use Rattle.relying_evidence.specs.declared.evidence.Evidence as known
-use Rattle.relying_evidence.specs.View.{seen_evidence}
+use Rattle.relying_search.specs.declared.evidence.Evidence as known
+use Rattle.relying_search.specs.View.{seen_evidence}
 use Rattle.relying_verdicts.specs.Difference.{IsFirstApart, ComparesEvidence}
 
 -- ---- lists of evidence

@@ -6,9 +6,9 @@ use Rattle.cert.specs.declared.certificate.Certificate as code
 use Rattle.statements_facts.specs.Statement.{Holdings}
 use Rattle.relying_agreement.specs.Link.{Link, links_from}
 use Rattle.relying_agreement.specs.Status.{Evidence, evidence_of}
-use Rattle.relying_evidence.specs.declared.evidence.Evidence as known
-use Rattle.relying_evidence.specs.declared.link.Link as linked
-use Rattle.relying_evidence.specs.View.{seen_evidence, seen_link}
+use Rattle.relying_search.specs.declared.evidence.Evidence as known
+use Rattle.relying_search.specs.declared.link.Link as linked
+use Rattle.relying_search.specs.View.{seen_evidence, seen_link}
 
 -- what was found bears on the certificates up to a number
 abbrev pub IsSoFar : List linked.Link → ℕ → Holdings → List known.Evidence → Type 0

@@ -9,7 +9,7 @@ use Rattle.cert.specs.Certificate.{Certificate}
 use Rattle.statements_facts.specs.Statement.{IssuerIdentity, CrlAnswer, Holdings, at_point}
 use Rattle.statements_facts.specs.declared.answer.Answers.{Answers}
 use Rattle.statements_facts.specs.declared.answer.CrlAnswer as listed
-use Rattle.relying_evidence.specs.View.{seen_lists}
+use Rattle.relying_search.specs.View.{seen_lists}
 use Rattle.relying_verdicts.specs.Found.{AreAnswersOn, AreListsAt, lists_held_under, lists_in}
 
 module _ (issuer : IssuerIdentity) (certificate : Certificate) where

@@ -15,8 +15,8 @@ use Rattle.relying_agreement.specs.Verdict.{evidence_on}
 use Rattle.relying_agreement.specs.declared.verdict.Comparison.{Comparison}
 use Rattle.statements_facts.specs.declared.answer.Answers.{Answers}
 use Rattle.relying_verdicts.specs.Difference.{ComparesEvidence}
-use Rattle.relying_evidence.specs.View.{seen_evidence, seen_lists}
-use Rattle.relying_evidence.specs.declared.evidence.Evidence as known
+use Rattle.relying_search.specs.View.{seen_evidence, seen_lists}
+use Rattle.relying_search.specs.declared.evidence.Evidence as known
 
 -- both lists of an issuer, in the order of their slots
 abbrev pub lists_in : Answers → List (Option CrlAnswer)

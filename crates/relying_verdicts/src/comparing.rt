@@ -9,7 +9,7 @@ ghost use Rattle.relying_agreement.specs.Comparison.{IsComparison};
 ghost use Rattle.relying_verdicts.specs.Asking.{AreAskedOpen, AsksStores, AsksBothForCause, BothAreInvalidOrOpen, IsFaultOfValidPath};
 ghost use Rattle.relying_verdicts.specs.Difference.{ComparesEvidence, IsFirstApart};
 ghost use Rattle.relying_verdicts.specs.Found.{ComparesHeld};
-ghost use Rattle.relying_evidence.specs.View.{seen_evidence, seen_lists};
+ghost use Rattle.relying_search.specs.View.{seen_evidence, seen_lists};
 ghost use Rattle.path.specs.Reading.{seen_query};
 
 use crate::evidence::verdict_by;
@@ -17,7 +17,7 @@ use crate::fault::Fault;
 use crate::looking::evidence_on;
 use path::{Outcome, Query, Verifier};
 use relying_agreement::{Comparison, Verdict};
-use relying_evidence::Evidence;
+use relying_search::Evidence;
 use sqlite::{Alter, Transaction};
 use statements_facts::{CrlAnswer, OcspAnswer};
 use std::alloc::Global;

@@ -2,10 +2,10 @@
 
 ghost use Rattle.std.specs.Prelude.{◌≡◌, map};
 ghost use Rattle.relying_agreement.specs.Verdict.{first_revoked, first_uncovered, verdict_by};
-ghost use Rattle.relying_evidence.specs.View.{seen_evidence};
+ghost use Rattle.relying_search.specs.View.{seen_evidence};
 
 use relying_agreement::Verdict;
-use relying_evidence::Evidence;
+use relying_search::Evidence;
 
 /// The first certificate that is revoked, with the number of the reason.
 fn first_revoked(evidence: &[Evidence], moment: i64) -> Option<(usize, u8)>

@@ -9,7 +9,7 @@ ghost use Rattle.store_sql.specs.Inside.{IsInTransaction, KeepsReference, Succee
 ghost use Rattle.store_sql.specs.Statements.{CommitsNothing};
 ghost use Rattle.relying_agreement.specs.Verdict.{evidence_on, verdict_by};
 ghost use Rattle.path.specs.Query.{Accepts};
-ghost use Rattle.relying_evidence.specs.View.{seen_evidence};
+ghost use Rattle.relying_search.specs.View.{seen_evidence};
 ghost use Rattle.relying_search.specs.Asked.{Steps};
 ghost use Rattle.relying_search.specs.Finding.{FindsHolding, seen_finding};
 ghost use Rattle.relying_verdicts.specs.Asking.{AsksForCause, AsksStore};
@@ -21,8 +21,7 @@ use crate::looking::evidence_of_each;
 use path_search::{Answer, Candidate, Paths, Search, search_laws};
 use path_verifiers::Verifier;
 use relying_agreement::Verdict;
-use relying_evidence::Evidence;
-use relying_search::{Asked, Finding, FindingBudget, links_of_candidate};
+use relying_search::{Asked, Evidence, Finding, FindingBudget, links_of_candidate};
 use sqlite::{Alter, Transaction};
 use std::alloc::Global;
 

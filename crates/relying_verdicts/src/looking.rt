@@ -12,13 +12,13 @@ ghost use Rattle.relying_agreement.specs.Status.{evidence_of};
 ghost use Rattle.relying_agreement.specs.Verdict.{evidence_on};
 ghost use Rattle.relying_verdicts.specs.Asking.{AsksStore, AsksForCause};
 ghost use Rattle.relying_verdicts.specs.Found.{AreAnswersOn, AreListsAtPoints, IsAssembled, lists_in};
-ghost use Rattle.relying_evidence.specs.View.{seen_evidence, seen_link, seen_lists};
+ghost use Rattle.relying_search.specs.View.{seen_evidence, seen_link, seen_lists};
 ghost use Rattle.path.specs.Reading.{seen_query};
 
 use crate::fault::Fault;
 use cert::Certificate;
 use path::Query;
-use relying_evidence::{Evidence, Link, links_of, may_sign_crls, own_scope};
+use relying_search::{Evidence, Link, links_of, may_sign_crls, own_scope};
 use sha1::Sha1;
 use sqlite::{Alter, Transaction};
 use statements::issuer_of;

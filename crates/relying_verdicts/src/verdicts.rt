@@ -6,7 +6,7 @@ ghost use Rattle.store_sql.specs.Statements.{CommitsNothing};
 ghost use Rattle.sqlite.specs.State.{HasCleanDisk};
 ghost use Rattle.relying_agreement.specs.Verdict.{IsVerdict, verdict_by};
 ghost use Rattle.relying_verdicts.specs.Asking.{AsksStore, AsksForCause, IsFaultOfValidPath, IsInvalidOrOpen};
-ghost use Rattle.relying_evidence.specs.View.{seen_evidence};
+ghost use Rattle.relying_search.specs.View.{seen_evidence};
 ghost use Rattle.path.specs.Reading.{seen_query};
 
 use crate::evidence::verdict_by;
@@ -14,7 +14,7 @@ use crate::fault::Fault;
 use crate::looking::evidence_on;
 use path::{Outcome, Query, Verifier};
 use relying_agreement::Verdict;
-use relying_evidence::Evidence;
+use relying_search::Evidence;
 use sqlite::{Alter, Transaction};
 use std::alloc::Global;
 

@@ -1,7 +1,6 @@
 //! Many bases, among which mail addresses and hosts of URIs are found.
 
-use names_hosts::{HostBase, MailBase, MailName, host_of_uri};
-use names_hosts_order::{HostIndex, MailIndex};
+use names_hosts::{HostBase, HostIndex, MailBase, MailIndex, MailName, host_of_uri};
 use std::alloc::Global;
 use std::test::Fail;
 

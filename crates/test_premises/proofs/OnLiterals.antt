@@ -37,7 +37,7 @@ use Rattle.statements_ocsp.specs.ResponseExtensions.{one_response_extension, ext
 use Rattle.statements.specs.Statement.{statement_at_under, statement_under}
 use Rattle.sha1.specs.Sha1.{first_words, schedule, rounds, compress, hash_after, digest_bytes, sha1}
 use Rattle.sha2.specs.Sha256.{first_words as first_words_256, schedule as schedule_256, rounds as rounds_256, compress as compress_256, hash_after as hash_after_256, digest_bytes as digest_bytes_256, sha256}
-use Rattle.vectors_toy.specs.ToySignature.{toy_signature_of}
+use Rattle.vectors.specs.ToySignature.{toy_signature_of}
 use Rattle.jiff_core.specs.Calendar.{days_from_civil, day_count, days_of_years, days_of_months}
 
 unfoldable pub on_literals : ⊤

@@ -4,4 +4,4 @@ pub use Rattle.cert.specs.Certificate
 pub use Rattle.relying_agreement.specs.Run
 pub use Rattle.relying_agreement.specs.Agreement
 pub use Rattle.relying_agreement.specs.Verdict
-pub use Rattle.vectors_toy.specs.ToySignature
+pub use Rattle.vectors.specs.ToySignature

@@ -5,7 +5,7 @@ use Rattle.cert.specs.Certificate.{Certificate, certificate}
 use Rattle.statements_facts.specs.declared.profile.Profile.TheVariants.{Stated}
 use Rattle.statements_facts.specs.Statement.{empty_holdings}
 use Rattle.path.specs.Query.{Query, Accepts}
-use Rattle.vectors_toy.specs.ToySignature.{toy_signature_of}
+use Rattle.vectors.specs.ToySignature.{toy_signature_of}
 use Rattle.relying_agreement.specs.declared.verdict.Verdict.TheVariants.{Valid}
 use Rattle.relying_agreement.specs.Verdict.{IsVerdict}
 use Rattle.relying_agreement.specs.Run.{Event, DeliveryAnswer, Party, genuine_facts, HasRun}

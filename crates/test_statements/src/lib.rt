@@ -1,11 +1,15 @@
 //! Tests of who signed what: fingerprints, lists of them, what the builders of `vectors` sign, and lists and responses in the notations of
-//! `vectors` and `vectors_ocsp`, believed or refused.
+//! `vectors` and `vectors_ocsp`, believed or refused, also where they and certificates are cut short or an octet is changed.
 #![tactic(auto)]
 
 #[cfg(test)]
 mod asked;
 #[cfg(test)]
 mod built;
+#[cfg(test)]
+mod changed;
+#[cfg(test)]
+mod cut;
 #[cfg(test)]
 mod fingerprints;
 #[cfg(test)]
@@ -26,6 +30,8 @@ mod responses;
 mod rows;
 #[cfg(test)]
 mod telling;
+#[cfg(test)]
+mod whole;
 
 #[cfg(test)]
 use cert::Certificate;

@@ -2,7 +2,7 @@
 ghost use Rattle.std.specs.Prelude.{◌≡◌, ◌^◌};
 
 use cert::MOST_NAMES;
-use cli_lines::LINE_MOST;
+use cli_answers::LINE_MOST;
 use der::MAX_DEPTH;
 use statements_ocsp::MOST_SINGLES;
 

@@ -5,7 +5,7 @@
 /// `inhibited` inhibitAnyPolicy 0, and `e`, `i` and `x` stand before the numbers of requireExplicitPolicy, inhibitPolicyMapping and
 /// inhibitAnyPolicy; of `ee-empty` certificatePolicies has none. Then `si` is of A under A, with another key, and `sub` of B under A,
 /// `subsi` of B under B, with another key; at the end of a name each says under which of them a certificate is. `one` is of L under R; a
-/// `notice` or a `cps` is a qualifier. Made by a script of its own, with the signatures of `vectors_toy`.
+/// `notice` or a `cps` is a qualifier. Made by a script of its own, with the signatures of `vectors`.
 pub const CERTIFICATES: &str = "
 anchor 308196306ba003020102020105300406022a03300c310a30080603550403130152301e170d3235303130313030303030305a170d3236303130313030303030305a300c310a30080603550403130152300a300406022a0303020052a3133011300f0603551d130101ff040530030101ff300406022a03032100454e02142f1b8e0a28ffede853e53e0436560b089f12ed112d621f232170559d
 ca-a 3081a7307ca003020102020105300406022a03300c310a30080603550403130152301e170d3235303130313030303030305a170d3236303130313030303030305a300c310a30080603550403130141300a300406022a0303020041a3243022300f0603551d130101ff040530030101ff300f0603551d2004083006300406022a61300406022a03032100091b6bb065748f457743a63c95deb4fd9284bfd672c660a43196e5b227dbf12a

@@ -5,7 +5,7 @@ use crate::verdicts::{lists_of, text_of};
 use asn::Oid;
 use cert::{CertFault, Certificate};
 use path_search::{Budget, Candidate, Search};
-use relying_find_policies::{
+use relying_policies::{
     FindingWithPolicies, PoliciesApart, SearchPolicies, find_with_policies, search_policies_apart,
 };
 use relying_search::FindingBudget;
@@ -13,7 +13,7 @@ use statements::Statement;
 use std::alloc::Global;
 use std::fmt::Write;
 use std::test::Fail;
-use vectors_toy::ToyVerifier;
+use vectors::ToyVerifier;
 
 /// A search a line: the user-initial-policy-set and the inputs, as in the rows of `paths`; the certificates of the bag, the target, the lists
 /// in the notation of `vectors`, and how many valid paths may be asked about; and the finding: the place of the anchor, a colon, the places

@@ -8,7 +8,7 @@ use path::{Outcome, QueryFault, Reason, validate};
 use path_with_policies::{OutcomeWithPolicies, validate_with_policies};
 use std::alloc::Global;
 use std::test::Fail;
-use vectors_toy::ToyVerifier;
+use vectors::ToyVerifier;
 
 /// A question a line: the user-initial-policy-set, a letter each policy; the inputs `E`, `M` and `A`; the certificates, the anchor first; and the
 /// answer: the sets of the authorities and of the user, or the certificate that is refused, and why.

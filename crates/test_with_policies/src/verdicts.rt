@@ -8,8 +8,7 @@ use relying_policies::{VerdictWithPolicies, verdict_with_policies};
 use statements::Statement;
 use std::alloc::Global;
 use std::test::Fail;
-use vectors::{NotationFault, revocation_list};
-use vectors_toy::ToyVerifier;
+use vectors::{NotationFault, ToyVerifier, revocation_list};
 
 /// As the rows of `paths`, and behind the certificates, behind a stroke, the lists in the notation of `vectors`.
 const ROWS: &str = "

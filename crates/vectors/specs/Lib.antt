@@ -1,1 +1,1 @@
-pub use Rattle.vectors_toy.specs.ToySignature
+pub mod ToySignature

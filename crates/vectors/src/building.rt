@@ -4,10 +4,10 @@ use crate::extension_list::extensions;
 use crate::fault::NotationFault;
 use crate::notation::Notation;
 use crate::parts::{algorithm_tree, bit_string, key_info, key_info_tree, name_tree, primitive};
+use crate::toy_verifier::toy_signature;
 use cert::Version;
 use der_tree::{Tree, encode};
 use std::alloc::Global;
-use vectors_toy::toy_signature;
 
 /// version [0] EXPLICIT INTEGER: nothing in v1, which is the default
 fn push_version(

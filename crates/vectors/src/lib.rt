@@ -1,4 +1,5 @@
-//! Certificates and revocation lists for tests, from texts in a small notation, under a signature that needs no secret.
+//! Certificates and revocation lists for tests, from texts in a small notation, under a signature that needs no secret, with the verifier of
+//! such signatures; and the same with the points at which lists about certificates are published (RFC 5280, 4.2.1.13 and 5.2.5).
 //!
 //! # The notation of certificates
 //!
@@ -68,10 +69,13 @@ mod list_notation;
 mod notation;
 mod part;
 mod parts;
+mod published;
+mod toy_verifier;
 
 pub use building::{certificate, sign, tree_of};
 pub use fault::NotationFault;
 pub use list_building::{revocation_list, revocation_list_tree};
 pub use part::NotationPart;
 pub use parts::{algorithm_tree, bit_string, key_info, name, name_tree, primitive};
-pub use vectors_toy::{ToyVerifier, toy_signature};
+pub use published::{ListText, certificate_at, list_at};
+pub use toy_verifier::{ToyVerifier, toy_signature};

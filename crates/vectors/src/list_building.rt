@@ -12,7 +12,7 @@ const CRL_NUMBER: &[u8] = b"\x55\x1D\x14";
 
 const REASON_CODE: &[u8] = b"\x55\x1D\x15";
 
-const ISSUING_DISTRIBUTION_POINT: &[u8] = b"\x55\x1D\x1C";
+pub(crate) const ISSUING_DISTRIBUTION_POINT: &[u8] = b"\x55\x1D\x1C";
 
 /// The revocationDate of each entry.
 const REVOCATION_DATE: &[u8] = b"250520000000Z";

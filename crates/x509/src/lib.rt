@@ -146,19 +146,16 @@ pub mod policies {
     pub use path_policies::{
         ANY_POLICY, PolicyCertificate, PolicyOutcome, PolicyQuery, PolicyReason, PolicySets,
         PolicyState, PolicyStep, policy_certificates, policy_outcome_laws, process_policies,
+        tree_laws,
     };
-    pub use path_policy_tree::tree_laws;
     pub use path_with_policies::{
         OutcomeWithPolicies, PolicyInputs, QueryWithPolicies, join_outcomes,
         outcome_with_policies_laws, policies_apart, reason_of_policy, validate_with_policies,
     };
-    pub use relying_find_policies::{
-        FindingWithPolicies, PoliciesApart, SearchPolicies, find_with_policies,
-        finding_with_policies_laws, search_policies_apart,
-    };
     pub use relying_policies::{
-        VerdictWithPolicies, add_policies, join_verdict, verdict_with_policies,
-        verdict_with_policies_laws,
+        FindingWithPolicies, PoliciesApart, SearchPolicies, VerdictWithPolicies, add_policies,
+        find_with_policies, finding_with_policies_laws, join_verdict, search_policies_apart,
+        verdict_with_policies, verdict_with_policies_laws,
     };
 }
 
@@ -192,12 +189,12 @@ pub mod revocation {
 
 /// Verdicts by statements at hand, without a store, and what a verifier may be asked for them.
 pub mod at_hand {
-    pub use relying_find_policies::find_among;
+    pub use relying_policies::find_among;
     pub use relying_questions::{
         SignatureQuestion, TextPart, WhichText, finding_question_laws, finding_questions,
         question_laws, questions, why_not_question_laws,
     };
-    pub use relying_search_filtered::{EachPath, PathFilter, among_all_law, finding_among_laws};
+    pub use relying_search::{EachPath, PathFilter, among_all_law, finding_among_laws};
     pub use relying_texts::{
         StatementsFault, delivery_laws, find, read_statements, verdict, verdict_on_candidate,
     };

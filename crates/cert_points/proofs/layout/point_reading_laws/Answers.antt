@@ -1,4 +1,5 @@
-use Rattle.cert_points.proofs.Answered.{names_once, name_once, point_once, points_once, field_once}
+use Rattle.cert_points.proofs.Answered.{names_once, name_once, point_once, points_once}
+use Rattle.cert_points.proofs.PointsOfCertificate.{field_once}
 use Rattle.cert_points.proofs.layout.point_reading_laws.Goals as goal
 
 pub returns-clause-general_names : goal.returns-clause-general_names
@@ -14,4 +15,4 @@ pub returns-clause-points : goal.returns-clause-points
 returns-clause-points c = points_once
 
 pub returns-clause-certificate : goal.returns-clause-certificate
-returns-clause-certificate c = field_once
+returns-clause-certificate c = field_once points_once

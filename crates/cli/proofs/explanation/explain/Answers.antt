@@ -1,6 +1,6 @@
 use Rattle.std.proofs.Common.{◌∙◌, inl, inr, refl, sym, map, rules}
 use Rattle.std.proofs.KnownBytes.{Keeps-refl}
-use Rattle.cli_explaining.specs.Topics.{explanation}
+use Rattle.cli_failures.specs.Topics.{explanation}
 use Rattle.cli.proofs.explanation.explain.Goals as goal
 
 pub returns-then-not-is_known-clause-fails : goal.returns-then-not-is_known-clause-fails

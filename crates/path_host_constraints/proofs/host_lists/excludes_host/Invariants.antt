@@ -1,5 +1,5 @@
 use Rattle.std.proofs.Common.{◌↔◌, drop}
-use Rattle.names_hosts_order.specs.HostLists.{HasHost}
+use Rattle.names_hosts.specs.HostLists.{HasHost}
 use Rattle.path_host_constraints.specs.Lists.{members_of}
 use Rattle.path_host_constraints.proofs.host_lists.excludes_host.Given as goal
 

@@ -2,7 +2,7 @@ use Rattle.std.proofs.Common.{◌↔◌, ◌≤◌, ◌+◌, ℕ, List, length, 
 use Rattle.std.specs.Prelude.{IfOk}
 use Rattle.std.proofs.lemmas.Result.{IfOk-weaker}
 use Rattle.names_hosts.specs.Hosts.{host_names}
-use Rattle.names_hosts_order.specs.HostLists.{HasHost}
+use Rattle.names_hosts.specs.HostLists.{HasHost}
 use Rattle.path_host_constraints.specs.Lists.{changed, size_of}
 use Rattle.path_host_constraints.specs.HostLists.{PermitsHostIn}
 use Rattle.path_host_constraints.proofs.Loops.{size_after}

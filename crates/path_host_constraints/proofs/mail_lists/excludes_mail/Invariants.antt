@@ -1,6 +1,6 @@
 use Rattle.std.proofs.Common.{◌↔◌, drop}
 use Rattle.names_hosts.specs.Mail.{mail_text}
-use Rattle.names_hosts_order.specs.MailLists.{HasMail}
+use Rattle.names_hosts.specs.MailLists.{HasMail}
 use Rattle.path_host_constraints.specs.Lists.{members_of}
 use Rattle.path_host_constraints.proofs.mail_lists.excludes_mail.Given as goal
 

@@ -1,7 +1,7 @@
 use Rattle.std.proofs.Common.{refl}
 use Rattle.std.proofs.lemmas.Bool.{false≢true}
 use Rattle.names_hosts.specs.Mail.{MailText, mail_text}
-use Rattle.names_hosts_order.specs.MailLists.{HasMail}
+use Rattle.names_hosts.specs.MailLists.{HasMail}
 use Rattle.path_host_constraints.specs.Lists.{members_of}
 use Rattle.path_host_constraints.specs.MailLists.{ExcludesNoMail}
 use Rattle.path_host_constraints.proofs.Loops.{is_one_at, holds_more_at, all_of}

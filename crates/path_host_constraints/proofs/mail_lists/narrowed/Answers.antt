@@ -2,7 +2,7 @@ use Rattle.std.proofs.Common.{◌↔◌, ◌≤◌, ◌+◌, length, map, sym, s
 use Rattle.std.specs.Prelude.{IfOk}
 use Rattle.std.proofs.lemmas.Result.{IfOk-weaker}
 use Rattle.names_hosts.specs.Mail.{MailText, mail_names}
-use Rattle.names_hosts_order.specs.MailLists.{HasMail}
+use Rattle.names_hosts.specs.MailLists.{HasMail}
 use Rattle.path_host_constraints.specs.Lists.{changed, size_of}
 use Rattle.path_host_constraints.specs.MailLists.{PermitsMailIn}
 use Rattle.path_host_constraints.proofs.Loops.{size_after}

@@ -1,5 +1,5 @@
 use Rattle.std.proofs.Common.{◌+◌, ◌++◌, drop, ap₂, ◌∙◌}
-use Rattle.relying_evidence.specs.View.{seen_link}
+use Rattle.relying_search.specs.View.{seen_link}
 use Rattle.relying_questions.specs.Places.{LinkStands, LinksStand}
 use Rattle.relying_questions.specs.Questions.{of_certificate}
 use Rattle.relying_questions.specs.Seen.{asked_of_link, asked_of_links, seen_all, seen_question}

@@ -1,5 +1,5 @@
 use Rattle.std.proofs.Common.{◌+◌, drop, subst, sym}
-use Rattle.relying_evidence.specs.View.{seen_link}
+use Rattle.relying_search.specs.View.{seen_link}
 use Rattle.relying_questions.specs.Places.{ArePlaced, IsPlaced, LinkStands, placed_certificate, placed_certificates}
 use Rattle.relying_questions.specs.Seen.{issuer_of_link, issuers_of_links}
 use Rattle.relying_questions.proofs.Adding.{map_push, one_left, one_mapped}

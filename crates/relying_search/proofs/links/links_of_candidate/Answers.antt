@@ -3,7 +3,7 @@ use Rattle.std.proofs.lemmas.List.{map-append}
 use Rattle.cert.specs.Certificate.{seen_certificate}
 use Rattle.path_issuers.specs.View.{seen_search}
 use Rattle.path_issuers.specs.Search.{certificates_at}
-use Rattle.relying_evidence.specs.View.{seen_link}
+use Rattle.relying_search.specs.View.{seen_link}
 use Rattle.relying_search.proofs.Downward.{at_place, count_at, one_link}
 use Rattle.relying_search.proofs.links.links_of_candidate.Goals as goal
 

@@ -4,7 +4,7 @@ use Rattle.path_search.specs.Answer.{seen_candidate}
 use Rattle.path_issuers.specs.View.{seen_search}
 use Rattle.path_issuers.specs.Search.{certificates_at, query_about}
 use Rattle.relying_agreement.specs.Link.{links_of}
-use Rattle.relying_evidence.specs.View.{seen_link}
+use Rattle.relying_search.specs.View.{seen_link}
 use Rattle.relying_search.proofs.Downward.{with_left}
 use Rattle.relying_search.proofs.links.links_of_candidate.Given as goal
 

@@ -4,7 +4,7 @@ use Rattle.path.specs.declared.reason.Outcome.TheVariants.{Good}
 use Rattle.path_issuers.specs.Search.{query_about}
 use Rattle.path_issuers.specs.View.{seen_search}
 use Rattle.path_search.specs.Answer.{seen_candidate}
-use Rattle.relying_evidence.specs.View.{seen_link}
+use Rattle.relying_search.specs.View.{seen_link}
 use Rattle.statements.specs.Statement.{seen_statement}
 use Rattle.relying_texts.specs.View.{facts_in_all, issuers_in}
 use Rattle.relying_texts.proofs.Bearing.{decided}

@@ -1,5 +1,5 @@
 use Rattle.std.proofs.Common.{option_map}
-use Rattle.relying_evidence.specs.View.{seen_link, seen_lists}
+use Rattle.relying_search.specs.View.{seen_link, seen_lists}
 use Rattle.statements_facts.specs.Answer.{seen_ocsp}
 use Rattle.relying_texts.specs.View.{facts_in_all}
 use Rattle.relying_texts.proofs.Bearing.{bears}

@@ -1,5 +1,5 @@
 use Rattle.std.proofs.Common.{arith, ◌≡◌, ◌+◌, length, refl, ap, ◌∙◌}
-use Rattle.relying_evidence.specs.View.{seen_link, seen_lists}
+use Rattle.relying_search.specs.View.{seen_link, seen_lists}
 use Rattle.relying_texts.specs.View.{facts_in_all}
 use Rattle.relying_texts.proofs.Bearing.{all_points}
 use Rattle.relying_texts.proofs.verdicts.lists_on.Goals as goal

@@ -1,4 +1,4 @@
-use Rattle.relying_evidence.specs.View.{seen_link, seen_lists}
+use Rattle.relying_search.specs.View.{seen_link, seen_lists}
 use Rattle.relying_texts.specs.Told.{AreToldUpTo}
 use Rattle.relying_texts.specs.View.{facts_in_all}
 use Rattle.relying_texts.proofs.verdicts.lists_on.Given as goal

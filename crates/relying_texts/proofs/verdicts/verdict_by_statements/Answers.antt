@@ -3,7 +3,7 @@ use Rattle.std.proofs.lemmas.Result.{IfOk-weaker}
 use Rattle.cert.specs.Certificate.{seen_certificate}
 use Rattle.path.specs.Reading.{seen_query}
 use Rattle.relying_agreement.specs.Link.{links_from}
-use Rattle.relying_evidence.specs.View.{seen_link}
+use Rattle.relying_search.specs.View.{seen_link}
 use Rattle.statements.specs.Statement.{seen_statement}
 use Rattle.relying_texts.specs.View.{facts_in_all, issuers_in}
 use Rattle.relying_texts.proofs.Bearing.{decided}

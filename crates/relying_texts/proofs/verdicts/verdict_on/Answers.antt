@@ -3,7 +3,7 @@ use Rattle.std.proofs.Math.Facts.{to_z-of_z}
 use Rattle.relying_agreement.specs.Link.{Link}
 use Rattle.relying_agreement.specs.Status.{Evidence, evidence_of}
 use Rattle.relying_agreement.specs.Verdict.{verdict_by}
-use Rattle.relying_evidence.specs.View.{seen_link}
+use Rattle.relying_search.specs.View.{seen_link}
 use Rattle.relying_texts.specs.View.{facts_in_all, held_of}
 use Rattle.relying_texts.proofs.Deciding.{is_revoked, goes_on}
 use Rattle.relying_texts.proofs.Folding.{one_left}

@@ -1,6 +1,6 @@
 use Rattle.std.proofs.Common.{map, drop}
 use Rattle.relying_agreement.specs.Status.{evidence_of}
-use Rattle.relying_evidence.specs.View.{seen_link}
+use Rattle.relying_search.specs.View.{seen_link}
 use Rattle.relying_texts.specs.View.{facts_in_all, held_of}
 use Rattle.relying_texts.proofs.Deciding.{IsSoFar}
 use Rattle.relying_texts.proofs.verdicts.verdict_on.Given as goal

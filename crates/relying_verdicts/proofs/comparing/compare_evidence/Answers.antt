@@ -1,7 +1,7 @@
 use Rattle.std.proofs.Common.{◌≡◌, map, refl, sym, ap, ◌∙◌, None}
 use Rattle.std.proofs.Math.Facts.{to_z-of_z}
 use Rattle.relying_agreement.specs.Verdict.{verdict_by}
-use Rattle.relying_evidence.specs.View.{seen_evidence}
+use Rattle.relying_search.specs.View.{seen_evidence}
 use Rattle.relying_verdicts.proofs.Differing.{same_of_none}
 use Rattle.relying_verdicts.proofs.comparing.compare_evidence.Goals as goal
 

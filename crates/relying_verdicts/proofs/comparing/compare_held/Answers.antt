@@ -1,7 +1,7 @@
 use Rattle.std.proofs.Common.{arith, ◌≡◌, vec_len, map, ap, ◌∙◌}
 use Rattle.std.proofs.lemmas.Result.{err_from_is_err_and}
 use Rattle.store_sql.specs.Inside.{inside}
-use Rattle.relying_evidence.specs.View.{seen_evidence}
+use Rattle.relying_search.specs.View.{seen_evidence}
 use Rattle.relying_verdicts.proofs.Opening.{are_asked, some_found}
 use Rattle.relying_verdicts.proofs.Chains.{first_fails, other_fails, both_found, first_caused, other_caused}
 use Rattle.relying_verdicts.proofs.Differing.{compared_as}

@@ -1,6 +1,6 @@
 use Rattle.std.proofs.Common.{ℕ, map, drop, Option}
 use Rattle.relying_verdicts.specs.Difference.{IsFirstApart}
-use Rattle.relying_evidence.specs.View.{seen_evidence}
+use Rattle.relying_search.specs.View.{seen_evidence}
 use Rattle.relying_verdicts.proofs.comparing.first_apart.Given as goal
 
 abbrev pub invariant-loop-index : goal.invariant-loop-index

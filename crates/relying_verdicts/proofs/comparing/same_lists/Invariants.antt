@@ -1,5 +1,5 @@
 use Rattle.std.proofs.Common.{◌≡◌, ◌↔◌, drop}
-use Rattle.relying_evidence.specs.View.{seen_lists}
+use Rattle.relying_search.specs.View.{seen_lists}
 use Rattle.relying_verdicts.proofs.comparing.same_lists.Given as goal
 
 abbrev pub invariant-loop-index : goal.invariant-loop-index

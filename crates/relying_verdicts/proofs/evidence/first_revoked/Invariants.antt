@@ -1,6 +1,6 @@
 use Rattle.std.proofs.Common.{◌≡◌, map, drop}
 use Rattle.relying_agreement.specs.Verdict.{first_revoked}
-use Rattle.relying_evidence.specs.View.{seen_evidence}
+use Rattle.relying_search.specs.View.{seen_evidence}
 use Rattle.relying_verdicts.proofs.evidence.first_revoked.Given as goal
 
 abbrev pub invariant-loop-it : goal.invariant-loop-it

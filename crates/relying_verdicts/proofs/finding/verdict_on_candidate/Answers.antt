@@ -4,7 +4,7 @@ use Rattle.path_search.specs.Answer.{seen_candidate}
 use Rattle.path_issuers.specs.View.{seen_search}
 use Rattle.relying_agreement.specs.Status.{evidence_of}
 use Rattle.relying_agreement.specs.Verdict.{verdict_by}
-use Rattle.relying_evidence.specs.View.{seen_evidence, seen_link}
+use Rattle.relying_search.specs.View.{seen_evidence, seen_link}
 use Rattle.relying_verdicts.proofs.Chains.{found_as}
 use Rattle.relying_verdicts.proofs.Links.{some_link}
 use Rattle.relying_verdicts.proofs.Opening.{some_found}

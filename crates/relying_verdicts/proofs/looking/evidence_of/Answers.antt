@@ -3,7 +3,7 @@ use Rattle.std.proofs.lemmas.Result.{err_from_is_err_and}
 use Rattle.cert.specs.Certificate.{seen_certificate}
 use Rattle.sqlite.specs.State.{HasCleanDisk}
 use Rattle.store_sql.specs.Inside.{inside}
-use Rattle.relying_evidence.specs.View.{seen_link}
+use Rattle.relying_search.specs.View.{seen_link}
 use Rattle.relying_verdicts.specs.Found.{IsAssembled}
 use Rattle.statements_facts.specs.Fact.{seen_issuer}
 use Rattle.relying_verdicts.proofs.Answering.{evidence_is}

@@ -5,7 +5,7 @@ use Rattle.path.specs.Reading.{seen_query}
 use Rattle.relying_agreement.specs.Link.{links_from}
 use Rattle.relying_agreement.specs.Status.{evidence_of}
 use Rattle.relying_agreement.specs.Verdict.{evidence_on}
-use Rattle.relying_evidence.specs.View.{seen_evidence, seen_link}
+use Rattle.relying_search.specs.View.{seen_evidence, seen_link}
 use Rattle.relying_verdicts.proofs.Chains.{asks_as}
 use Rattle.relying_verdicts.proofs.Links.{as_many}
 use Rattle.relying_verdicts.proofs.looking.evidence_on.Goals as goal

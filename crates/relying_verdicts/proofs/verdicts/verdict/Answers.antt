@@ -2,7 +2,7 @@ use Rattle.std.proofs.Common.{arith, map, subst, ap, ◌∙◌}
 use Rattle.path.specs.declared.reason.Outcome.TheVariants.{Good}
 use Rattle.path.specs.Validity.{IsOutcome}
 use Rattle.relying_agreement.specs.Verdict.{verdict_by}
-use Rattle.relying_evidence.specs.View.{seen_evidence}
+use Rattle.relying_search.specs.View.{seen_evidence}
 use Rattle.path.specs.Reading.{seen_query}
 use Rattle.relying_verdicts.proofs.Chains.{found_as}
 use Rattle.relying_verdicts.proofs.Opening.{is_open, may_fail, some_certificate, some_found}

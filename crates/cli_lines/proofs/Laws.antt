@@ -1,2 +1,0 @@
--- What others may cite.
-pub use Rattle.cli_lines.proofs.Fronts.{front_behind, front_of_each, front_of_more, none, whole}

@@ -1,3 +1,0 @@
-mod Fronts
-pub mod Laws
-pub mod Reading

@@ -1,3 +1,0 @@
-mod Composing
-mod CrashLaws
-mod Lines

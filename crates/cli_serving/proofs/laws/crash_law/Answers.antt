@@ -1,5 +1,0 @@
-use Rattle.cli_serving.proofs.CrashLaws.{loses_nothing}
-use Rattle.cli_serving.proofs.laws.crash_law.Goals as goal
-
-pub returns : goal.returns
-returns g c = record { loses_nothing = loses_nothing _ }

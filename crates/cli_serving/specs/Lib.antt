@@ -1,2 +1,0 @@
-pub mod Crash
-pub mod Serving

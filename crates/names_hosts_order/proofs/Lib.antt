@@ -1,4 +1,0 @@
-mod Search
-mod HostOrder
-mod HostMembers
-mod MailMembers

@@ -1,2 +1,0 @@
-mod Downward
-mod Found

@@ -1,5 +1,0 @@
-mod Standing
-mod Same
-mod Every
-mod Ending
-pub mod Laws
