@@ -11,7 +11,7 @@ _DAYS_OF_400_YEARS = 146_097
 _MOMENT = "(?:[0-9]{14}Z|-?[0-9]+)"
 _STATE = "(?: (?:not-yet|current|lapsed))?"
 _LIST = re.compile(
-    f"crl ([0-9a-f]{{64}}|-) (all|user|ca) number ([0-9a-f]+) from ({_MOMENT}) until ({_MOMENT}) entries ([0-9]+){_STATE}")
+    f"crl ([0-9a-f]{{64}}|-) (all|user|ca)(?: point [ -~]+?)? number ([0-9a-f]+) from ({_MOMENT}) until ({_MOMENT}) entries ([0-9]+){_STATE}")
 _RESPONSE = re.compile(
     f"ocsp ([0-9a-f]{{64}}|-) ([0-9a-f]*) serial ([0-9a-f]+) this ({_MOMENT}) produced ({_MOMENT}) from ({_MOMENT}) until ({_MOMENT}) "
     f"(good|revoked [0-9]+|unknown){_STATE}")

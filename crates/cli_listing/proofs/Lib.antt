@@ -1,3 +1,4 @@
 mod Dates
 mod Writing
 mod Under
+mod Points

@@ -1,6 +1,7 @@
 pub mod MomentText
 pub mod CivilView
 pub mod NumberText
+pub mod PointText
 pub mod ListingText
 pub mod HeldText
 pub mod Found

@@ -14,6 +14,7 @@ use Rattle.store_rows.specs.Contents.{IssuerRow}
 use Rattle.store_listing.specs.Listing.{ListedCrl, ListedSingle, Overview}
 use Rattle.cli_listing.specs.MomentText.{moment_text}
 use Rattle.cli_listing.specs.NumberText.{number_text}
+use Rattle.cli_listing.specs.PointText.{issuer_point_text}
 
 -- an issuer by the SHA-256 of its subjectPublicKeyInfo; a dash where the listing has none under the id
 abbrev pub issuer_text : Option IssuerRow → List ℕ
@@ -44,9 +45,11 @@ abbrev pub state_at : Option ℤ → ℤ → ℤ → List ℕ
 state_at None from until = codes "\n"
 state_at (Some moment) from until = state_text from until moment ++ codes "\n"
 
--- crl ISSUER SCOPE number N from T until T entries K
-abbrev pub list_head_text : Option IssuerRow → ListedCrl → List ℕ
-list_head_text issuer list = (codes "crl " ++ issuer_text issuer) ++ scope_text list.scope ++ (codes " number " ++ number_text list.head.number)
+-- crl ISSUER SCOPE [point NAME] number N from T until T entries K
+unfoldable pub list_head_text : Option IssuerRow → ListedCrl → List ℕ
+list_head_text issuer list =
+    (codes "crl " ++ issuer_text issuer) ++ scope_text list.scope ++ issuer_point_text issuer
+    ++ (codes " number " ++ number_text list.head.number)
 
 abbrev pub list_line : Option IssuerRow → Option ℤ → ListedCrl → List ℕ
 list_line issuer at list =

@@ -2,6 +2,7 @@
 
 ghost use Rattle.asn.specs.Time.{IsTime};
 ghost use Rattle.cli_listing.specs.MomentText.{moment_text, IsSpellable};
+ghost use Rattle.cli_listing.specs.PointText.{PointsAreFound};
 
 use crate::calendar::civil_after;
 use crate::moment::{FIRST, LAST};
@@ -14,3 +15,8 @@ pub fn moment_law(moment: i64)
         let _civil = civil_after((moment - FIRST) as u64);
     }
 }
+
+/// Of an issuer at a point, the octets of the point are found behind the key of the issuer's name.
+pub fn point_law()
+    ensures { PointsAreFound }
+{}

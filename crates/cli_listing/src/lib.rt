@@ -10,6 +10,7 @@ mod line;
 mod listed;
 mod moment;
 mod number;
+mod point;
 
-pub use laws::moment_law;
+pub use laws::{moment_law, point_law};
 pub use listed::listing_to;

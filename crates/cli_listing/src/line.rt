@@ -10,6 +10,7 @@ ghost use Rattle.cli_listing.specs.ListingText.{list_head_text, list_line, singl
 use crate::issuer::write_issuer;
 use crate::moment::write_moment_behind;
 use crate::number::{write_hex_behind, write_number};
+use crate::point::write_point;
 use statements_facts::{OcspAnswer, Scope, Status};
 use std::io;
 use std::io::Write;
@@ -66,6 +67,7 @@ fn write_end<W: Write>(at: Option<i64>, from: i64, until: i64, writer: &mut W) -
     writer.write_all(b"\n")
 }
 
+#[tactic(auto, unfolding(crate::specs::ListingText::list_head_text))]
 fn write_list_head<W: Write>(
     issuer: Option<&HeldIssuer>,
     list: &HeldList,
@@ -76,6 +78,7 @@ fn write_list_head<W: Write>(
 {
     write_issuer("crl ", issuer, writer)?;
     write_scope(list.scope, writer)?;
+    write_point(issuer, writer)?;
     write_number(" number ", list.head.number, writer)
 }
 

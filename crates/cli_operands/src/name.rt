@@ -87,7 +87,7 @@ fn name_in(text: &str) -> Result<Name<'_>, IdentityFault>
 
 /// Reads the name that is asked for, if one is: a mailbox if there is an at sign in the text, otherwise an IP address if it is one, and
 /// otherwise a host. If it is none of them, `BadName` says where it stops being one. It takes no memory.
-pub fn read_name<'a>(text: Option<&'a str>) -> Result<Option<Name<'a>>, Failure<'a>>
+pub fn read_name<'n, 'a>(text: Option<&'n str>) -> Result<Option<Name<'n>>, Failure<'a>>
     ensures reads { IfOk result (λ name. IsNameOf (option_map (λ s. s.now) text.entry)
         (option_map identity_named name)) }
     ensures fails { IfErr result (IsBadName (option_map (λ s. s.now) text.entry)) }

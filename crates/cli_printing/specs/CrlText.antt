@@ -8,6 +8,7 @@ use Rattle.statements_facts.specs.declared.scope.Scope.TheVariants.{All, User, C
 use Rattle.statements_crl.specs.Entry.{Entry}
 use Rattle.statements_crl.specs.CertificateList.{CertificateList}
 use Rattle.cli_printing.specs.CertificateText.{name_line, octets_line}
+use Rattle.cli_printing.specs.GeneralText.{point_line}
 
 -- the scope, where it is not that of all certificates
 abbrev pub scope_lines : Scope → List ℕ
@@ -27,8 +28,11 @@ crl_title = codes "crl\n"
 abbrev pub opening_lines : CertificateList → List ℕ
 opening_lines list = crl_title ++ name_line (codes "issuer") list.issuer.octets
 
+-- a line for each general name of the point where it is published; none of a whole list
 abbrev pub number_lines : CertificateList → List ℕ
-number_lines list = octets_line (codes "number") list.number ++ scope_lines list.scope ++ span_lines list.this_update list.next_update
+number_lines list =
+    octets_line (codes "number") list.number ++ scope_lines list.scope ++ flat_map point_line list.points
+    ++ span_lines list.this_update list.next_update
 
 -- its fields, and then a line for each entry as it stands
 abbrev pub crl_text : CertificateList → List ℕ

@@ -1,9 +1,11 @@
 -- General names (RFC 5280, 4.2.1.6), and the bases of subtrees (4.2.1.10), as text: a word, and behind a space what it is about.
-use Rattle.std.specs.Prelude.{ℕ, zero, suc, ◌-◌, List, [], ◌∷◌, ◌++◌, codes, length, min, slice_index}
+use Rattle.std.specs.Prelude.{ℕ, zero, suc, ◌-◌, List, [], ◌∷◌, ◌++◌, Result, Ok, Err, codes, length, min, slice_index}
 use Rattle.std.specs.Fmt.{decimal}
 use Rattle.hex.specs.Hex.{encode_lower}
+use Rattle.asn.specs.Place.{text_at}
 use Rattle.names.specs.Bases.{DomainNames, AddressRange, every_name, names_within, names_below}
-use Rattle.names.specs.GeneralLayout.{GeneralName, SubtreeBase, directory_name, dns_name, ip_address, other_name, directory_base, dns_base, ip_base, other_base}
+use Rattle.names.specs.GeneralLayout.{GeneralName, SubtreeBase, directory_name, dns_name, ip_address, other_name, general, directory_base, dns_base, ip_base, other_base}
+use Rattle.names_distinguished.specs.declared.fault.NameRule.{NameRule}
 use Rattle.cli_printing.specs.Printed.{shown_contents}
 use Rattle.cli_printing.specs.EscapedText.{escaped, spaced_text}
 use Rattle.cli_printing.specs.NameText.{name_text}
@@ -43,3 +45,14 @@ base_text (directory_base contents) = codes "dir " ++ name_text contents.octets
 base_text (dns_base names) = domain_text names
 base_text (ip_base range) = range_text range
 base_text (other_base number contents) = other_text number contents
+
+-- ---- names of points at which lists are published (RFC 5280, 5.2.5)
+
+-- the general name; octets that are none in hexadecimal
+abbrev pub read_text : List ℕ → Result GeneralName (NameRule × ℕ) → List ℕ
+read_text octets (Ok name) = general_text name
+read_text octets (Err fault) = encode_lower octets
+
+-- `point GENERAL`: the general name with these octets
+abbrev pub point_line : List ℕ → List ℕ
+point_line octets = codes "point " ++ read_text octets (general (text_at octets 0)) ++ codes "\n"

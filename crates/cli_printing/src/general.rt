@@ -1,17 +1,20 @@
 //! General names, and the bases of subtrees, as text.
 ghost use Rattle.std.specs.Prelude.{◌≡◌, ◌++◌, codes, length};
+ghost use Rattle.std.specs.List.{flat_map};
 ghost use Rattle.hex.specs.Hex.{encode_lower};
+ghost use Rattle.asn.specs.Members.{left, octets_of_each};
 ghost use Rattle.names.specs.Bases.{address_range, domain_names};
 ghost use Rattle.names.specs.GeneralView.{general_name, subtree_base};
 ghost use Rattle.names.specs.NameOctets.{raw_of};
 ghost use Rattle.cli_printing.specs.Printed.{shown_contents};
 ghost use Rattle.cli_printing.specs.EscapedText.{spaced_text};
 ghost use Rattle.cli_printing.specs.NameText.{name_text};
-ghost use Rattle.cli_printing.specs.GeneralText.{base_text, domain_text, general_text, mask_octets, other_text, range_text};
+ghost use Rattle.cli_printing.specs.GeneralText.{base_text, domain_text, general_text, mask_octets, other_text, point_line, range_text};
 ghost use Rattle.cli_printing.specs.Written.{Writes};
 
 use crate::name::write_name;
 use crate::text::{write_contents, write_digits, write_escaped, write_hex, write_spaced_text};
+use asn::{Cursor, Tlv};
 use names::{Domain, General, IpRange, Name, Subtree};
 use std::io;
 use std::io::Write;
@@ -51,7 +54,7 @@ fn write_other<W: Write>(number: u8, contents: &[u8], writer: &mut W) -> io::Res
 }
 
 /// Writes the general name.
-pub(crate) fn write_general<W: Write>(name: &General<'_>, writer: &mut W) -> io::Result<()>
+pub fn write_general<W: Write>(name: &General<'_>, writer: &mut W) -> io::Result<()>
     ensures { Writes W.contents writer.old writer.new result
         (general_text (general_name name.now)) }
 {
@@ -61,6 +64,30 @@ pub(crate) fn write_general<W: Write>(name: &General<'_>, writer: &mut W) -> io:
         General::Ip(address) => write_address(address, writer),
         General::Other(number, contents) => write_other(*number, contents, writer),
     }
+}
+
+// The line of a point's name.
+fn write_point<W: Write>(name: Tlv<'_>, writer: &mut W) -> io::Result<()>
+    ensures { Writes W.contents writer.old writer.new result (point_line name.entry.whole.now) }
+{
+    writer.write_all(b"point ")?;
+    match General::read(name) {
+        Ok(name) => write_general(&name, writer)?,
+        Err(_) => write_hex(name.whole, writer)?,
+    }
+    writer.write_all(b"\n")
+}
+
+/// Writes a line for each name of a point.
+pub(crate) fn write_points<W: Write>(names: Cursor<'_>, writer: &mut W) -> io::Result<()>
+    ensures { Writes W.contents writer.old writer.new result
+        (flat_map point_line (octets_of_each (left names.entry).values)) }
+{
+    let mut others = names;
+    while let Some(name) = others.next() {
+        write_point(name, writer)?;
+    }
+    Ok(())
 }
 
 // The base of a DNS constraint, as it stands in the certificate.

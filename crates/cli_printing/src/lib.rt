@@ -13,6 +13,7 @@ mod tree;
 
 pub use certificate::{certificate_to, write_octets};
 pub use fingerprint::{PrintsFault, certificate_print_to, crl_print_to, response_prints_to};
+pub use general::write_general;
 pub use name::write_name;
 pub use oid_text::write_oid;
 pub use response::response_to;

@@ -4,10 +4,14 @@ ghost use Rattle.std.specs.List.{flat_map};
 ghost use Rattle.statements_crl.specs.CertificateList.{seen_list};
 ghost use Rattle.statements_crl.specs.Entry.{entries_left, seen_entry};
 ghost use Rattle.cli_printing.specs.CrlText.{crl_text, entry_line, number_lines, opening_lines, scope_lines, span_lines, crl_title};
+ghost use Rattle.cert_points.specs.CompleteNames.{names_if_any};
+ghost use Rattle.cli_printing.specs.GeneralText.{point_line};
 ghost use Rattle.cli_printing.specs.Written.{Writes};
 
 use crate::certificate::{write_named, write_octets};
+use crate::general::write_points;
 use crate::text::write_hex;
+use cert_points::GeneralNames;
 use statements_crl::{Crl, Entries, Entry, Scope};
 use std::io;
 use std::io::Write;
@@ -19,6 +23,17 @@ fn write_scope<W: Write>(scope: Scope, writer: &mut W) -> io::Result<()>
         Scope::All => Ok(()),
         Scope::User => writer.write_all(b"scope user\n"),
         Scope::Ca => writer.write_all(b"scope ca\n"),
+    }
+}
+
+// A line for each name of the point where the list is published.
+fn write_point_lines<W: Write>(points: &Option<GeneralNames<'_>>, writer: &mut W) -> io::Result<()>
+    ensures { Writes W.contents writer.old writer.new result
+        (flat_map point_line (names_if_any points.now)) }
+{
+    match points {
+        Some(names) => write_points(names.members, writer),
+        None => Ok(()),
     }
 }
 
@@ -48,6 +63,7 @@ fn write_number<W: Write>(list: &Crl<'_>, writer: &mut W) -> io::Result<()>
 {
     write_octets("number", list.number.contents, writer)?;
     write_scope(list.scope, writer)?;
+    write_point_lines(&list.points, writer)?;
     write_span(list.this_update, list.next_update, writer)
 }
 

@@ -6,7 +6,7 @@ use Rattle.std.proofs.lemmas.Bool.Decides.{nat_tests}
 use Rattle.std.proofs.lemmas.Str.{IsUtf8-from_is_utf8, is_utf8-from_IsUtf8}
 use Rattle.hex.specs.Hex.{◌>>=◌, decode_pairs, decode_sized, pair_value}
 use Rattle.hex.specs.declared.error.FromHexError.{FromHexError}
-use Rattle.cli_requests.specs.Operands.{octet_of_digits, file_name, is_plain, name_in, plain_octet, with_octet}
+use Rattle.cli_requests.specs.Operands.{octet_of_digits, file_name, is_plain, name_in, plain_octet, text_of, with_octet}
 
 -- ---- two digits
 
@@ -107,18 +107,20 @@ none_read name rest whole none so_far = sym (ap (behind name) none) ∙ so_far
 
 -- ---- the whole
 
-pub named : (octets : List ℕ) → 0 < length octets → IsUtf8 octets → file_name octets ≡ Some octets
-named [] some is = absurd (omega (arith, some))
-named (octet ∷ octets) some is = rw (is_utf8-from_IsUtf8 (octet ∷ octets) is) refl
+pub is_text : (octets : List ℕ) → IsUtf8 octets → text_of octets ≡ Some octets
+is_text octets is = rw (is_utf8-from_IsUtf8 octets is) refl
 
 pub no_name : (octets : List ℕ) → length octets ≡ 0 → file_name octets ≡ None
 no_name [] none = refl
 no_name (octet ∷ octets) none = absurd (omega (arith, none))
 
+pub name_is_text : (octets : List ℕ) → 0 < length octets → file_name octets ≡ text_of octets
+name_is_text [] some = absurd (omega (arith, some))
+name_is_text (octet ∷ octets) some = refl
+
 no_utf8 : (octets : List ℕ) (test : Bool) → is_utf8 octets ≡ test → (IsUtf8 octets → ⊥) → test ≡ false
 no_utf8 octets true is none = absurd (none (IsUtf8-from_is_utf8 octets is))
 no_utf8 octets false is none = refl
 
-pub unnamed : (octets : List ℕ) → (IsUtf8 octets → ⊥) → file_name octets ≡ None
-unnamed [] none = refl
-unnamed (octet ∷ octets) none = rw (no_utf8 (octet ∷ octets) (is_utf8 (octet ∷ octets)) refl none) refl
+pub no_text : (octets : List ℕ) → (IsUtf8 octets → ⊥) → text_of octets ≡ None
+no_text octets none = rw (no_utf8 octets (is_utf8 octets) refl none) refl

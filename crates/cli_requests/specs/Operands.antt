@@ -1,5 +1,5 @@
 -- The operands of a request, as they are written in its line.
-use Rattle.std.specs.Prelude.{◌&&◌, ◌==◌, ℕ, nat_lt, nat_le, Bool, not, List, [], ◌∷◌, Option, Some, None, codes, take, drop, option_map, string_bytes, if◌then◌else◌}
+use Rattle.std.specs.Prelude.{◌&&◌, ◌==◌, ℕ, nat_lt, nat_le, Bool, not, List, [], ◌∷◌, Option, Some, None, codes, take, drop, option_and_then, option_map, string_bytes, if◌then◌else◌}
 use Rattle.std.specs.Str.{bytes_eq, is_utf8}
 use Rattle.std.specs.Result.{result_ok}
 use Rattle.hex.specs.Hex.{decode_of, pair_value}
@@ -39,12 +39,20 @@ name_in (first ∷ second ∷ third ∷ rest) =
     if first == 92 then with_octet (octet_of_digits second third) (name_in rest)
     else with_octet (plain_octet first) (name_in (second ∷ third ∷ rest))
 
+-- octets that are a text: UTF-8
+abbrev pub text_of : List ℕ → Option (List ℕ)
+text_of octets = if is_utf8 octets then Some octets else None
+
+-- the text that the word writes, in the same way
+abbrev pub text_in : List ℕ → Option (List ℕ)
+text_in word = option_and_then text_of (name_in word)
+
 -- ---- operands
 
--- octets that are the name of a file: UTF-8, and at least one
+-- octets that are the name of a file: a text, and not empty
 abbrev pub file_name : List ℕ → Option (List ℕ)
 file_name [] = None
-file_name (octet ∷ octets) = if is_utf8 (octet ∷ octets) then Some (octet ∷ octets) else None
+file_name (octet ∷ octets) = text_of (octet ∷ octets)
 
 abbrev pub file_of : Option (List ℕ) → Option Operand
 file_of None = None

@@ -1,5 +1,6 @@
 -- The requests of a session, each of them a line.
-use Rattle.std.specs.Prelude.{◌≡◌, ◌&&◌, ◌||◌, ◌==◌, ℕ, Bool, true, false, List, [], ◌∷◌, Option, Some, None, codes, length, slice_index, take, drop, map, option_map, is_some, if◌then◌else◌}
+use Rattle.std.specs.Prelude.{◌≡◌, ◌&&◌, ◌||◌, ◌==◌, ℕ, Bool, true, false, List, [], ◌∷◌, Option, Some, None, codes, length, slice_index}
+use Rattle.std.specs.Prelude.{take, drop, map, option_map, is_some, string_bytes, if◌then◌else◌}
 use Rattle.std.specs.Borrow.{Bor}
 use Rattle.std.specs.List.{slice_split}
 use Rattle.std.specs.Str.{bytes_eq, is_utf8}
@@ -10,9 +11,10 @@ use Rattle.cli_words.specs.SearchTexts.{SearchTexts, seen_search_words}
 use Rattle.cli_words.specs.PolicyTexts.{PolicyTexts, seen_policy_words}
 use Rattle.cli_words.specs.declared.line.Kind.{Kind}
 pub use Rattle.cli_words.specs.CommandLine.{kind_named}
-use Rattle.cli_requests.specs.Operands.{operand_in}
+use Rattle.cli_requests.specs.Operands.{operand_in, text_in}
 use Rattle.cli_requests.specs.declared.request.Request.{Request as Owned}
-use Rattle.cli_requests.specs.declared.request.Request.TheVariants.{Nothing, Believe, Deliver, Check, CheckWithPolicies, Find, Prints, SearchPrints, List as Held, Forget, Quit}
+use Rattle.cli_requests.specs.declared.request.Request.TheVariants.{Nothing, Believe, Deliver, Check, CheckWithPolicies, Find, Prints}
+use Rattle.cli_requests.specs.declared.request.Request.TheVariants.{SearchPrints, List as Held, Forget, Quit}
 use Rattle.cli_requests.specs.declared.request.RequestFault.{RequestFault}
 use Rattle.cli_requests.specs.declared.request.RequestFault.TheVariants.{Malformed, Memory}
 use Rattle.cli_requests.specs.declared.searching.SearchFiles as code
@@ -184,9 +186,14 @@ search_in moment purpose name words =
 abbrev pub name_in : List ℕ → Option (List ℕ)
 name_in word = behind (codes "name=") word
 
+-- the search for a name that a word writes
+abbrev pub search_for : List ℕ → Option (List ℕ) → Option (List ℕ) → List (List ℕ) → Option Request
+search_for moment purpose None words = None
+search_for moment purpose (Some name) words = search_in moment purpose (Some name) words
+
 -- the search that stands behind a name, or begins with the word that names none
 abbrev pub search_behind : List ℕ → Option (List ℕ) → Option (List ℕ) → List ℕ → List (List ℕ) → Option Request
-search_behind moment purpose (Some name) first words = search_in moment purpose (Some name) words
+search_behind moment purpose (Some name) first words = search_for moment purpose (text_in name) words
 search_behind moment purpose None first words = search_in moment purpose None (first ∷ words)
 
 -- `ANCHORS [AMONG] FILE`, or `name=NAME ANCHORS [AMONG] FILE`
@@ -285,7 +292,7 @@ seen_request (Deliver issuer file) = deliver issuer.now file.now
 seen_request (Check words) = check (seen_words words)
 seen_request (CheckWithPolicies query policies) =
     check_with_policies (seen_words query) (seen_policy_words policies)
-seen_request (Find words) = find (seen_search_words words)
+seen_request (Find words name) = find (record (seen_search_words words) { name = option_map (λ text. string_bytes text) name })
 seen_request (Prints kind with_parts issuer file) = prints kind with_parts issuer.now file.now
 seen_request (SearchPrints with_parts files) = search_prints with_parts (seen_files files)
 seen_request (Held moment) = list (option_map (λ text. text.now) moment)

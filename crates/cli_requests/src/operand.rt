@@ -2,7 +2,8 @@
 ghost use Rattle.std.specs.Prelude.{◌≡◌, ◌<◌, ◌⊎◌, None, Some, IfNone, IfOk, IfSome, is_some, length, option_map, string_bytes};
 ghost use Rattle.std.specs.List.{list_all};
 ghost use Rattle.hex.specs.Hex.{is_hex_digit};
-ghost use Rattle.cli_requests.specs.Operands.{octet_of_digits, file_in, file_name, is_plain, name_in, operand_of_digits, operand_in, seen_operand, with_octet};
+ghost use Rattle.cli_requests.specs.Operands.{octet_of_digits, file_in, file_name, is_plain, name_in, operand_of_digits, operand_in};
+ghost use Rattle.cli_requests.specs.Operands.{seen_operand, text_in, text_of, with_octet};
 
 use hex::FromHexError;
 use std::alloc::{AllocError, Global};
@@ -81,6 +82,17 @@ fn name_in(alloc: Global, word: &[u8]) -> Result<Option<Vec<u8>>, AllocError>
     }
 }
 
+// The text that these octets are.
+fn text_of(alloc: Global, octets: &[u8]) -> Result<Option<String>, AllocError>
+    ensures { IfOk result (λ text. option_map (λ read. string_bytes read) text
+        ≡ text_of octets.now) }
+{
+    match str::from_utf8(octets) {
+        Ok(text) => Ok(Some(String::from_str(alloc, text)?)),
+        Err(_) => Ok(None),
+    }
+}
+
 // The name that these octets are.
 fn file_of(alloc: Global, octets: &[u8]) -> Result<Option<String>, AllocError>
     ensures { IfOk result (λ name. option_map (λ text. string_bytes text) name
@@ -89,10 +101,7 @@ fn file_of(alloc: Global, octets: &[u8]) -> Result<Option<String>, AllocError>
     if octets.is_empty() {
         return Ok(None);
     }
-    match str::from_utf8(octets) {
-        Ok(name) => Ok(Some(String::from_str(alloc, name)?)),
-        Err(_) => Ok(None),
-    }
+    text_of(alloc, octets)
 }
 
 // The name of a file that the word writes.
@@ -104,6 +113,16 @@ fn file_in(alloc: Global, word: &[u8]) -> Result<Option<Operand>, AllocError>
     };
     match file_of(alloc, octets.as_slice())? {
         Some(name) => Ok(Some(Operand::File(name))),
+        None => Ok(None),
+    }
+}
+
+/// The text that the word writes, as it writes the name of a file; `None` if it writes none.
+pub(crate) fn text_in(alloc: Global, word: &[u8]) -> Result<Option<String>, AllocError>
+    ensures { IfOk result (λ text. option_map (λ read. string_bytes read) text ≡ text_in word.now) }
+{
+    match name_in(alloc, word)? {
+        Some(octets) => text_of(alloc, octets.as_slice()),
         None => Ok(None),
     }
 }

@@ -1,7 +1,8 @@
 //! Verdicts that a line asks for, with certificate policies or without.
 ghost use Rattle.std.specs.Prelude.{◌≡◌, IfErr, IfOk, Some, option_map};
 ghost use Rattle.cli_words.specs.QueryTexts.{seen_words};
-ghost use Rattle.cli_requests.specs.Requests.{IsNone, asked_in, begin_with, behind_flag, first_policies, octets_of_words, path_in, path_texts, path_with_policies_in, policy_in, seen_request};
+ghost use Rattle.cli_requests.specs.Requests.{IsNone, asked_in, begin_with, behind_flag, first_policies, octets_of_words, path_in};
+ghost use Rattle.cli_requests.specs.Requests.{path_texts, path_with_policies_in, policy_in, seen_request};
 
 use crate::request::{Request, RequestFault, check_operands};
 use cli_words::{PolicyWords, QueryWords};

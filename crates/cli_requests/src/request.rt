@@ -1,6 +1,8 @@
 //! What a line of a session asks for.
 ghost use Rattle.std.specs.Prelude.{◌≡◌, IfErr, IfOk, OnOk, Some, map, option_map, true};
-ghost use Rattle.cli_requests.specs.Requests.{IsFalse, IsNone, alone, are_operands, believe_in, check_in, deliver_in, is_passed_over, kind_named, list_in, print_in, prints_behind, prints_in, prints_of, purpose_in, request_in, request_named, request_on, search_prints_in, seen_request, octets_of_words, words_of};
+ghost use Rattle.cli_requests.specs.Requests.{IsFalse, IsNone, alone, are_operands, believe_in, check_in, deliver_in, is_passed_over};
+ghost use Rattle.cli_requests.specs.Requests.{kind_named, list_in, print_in, prints_behind, prints_in, prints_of, purpose_in, request_in};
+ghost use Rattle.cli_requests.specs.Requests.{request_named, request_on, search_prints_in, seen_request, octets_of_words, words_of};
 
 use crate::operand::is_operand;
 use crate::policies::asked_in;
@@ -29,8 +31,12 @@ pub enum Request<'a> {
         query: QueryWords<'a>,
         policies: PolicyWords<'a>,
     },
-    /// Tell the path that is found to a certificate, and its verdict. The files are operands.
-    Find(SearchWords<'a>),
+    /// Tell the path that is found to a certificate, and its verdict. The files are operands. A name that the certificate has to speak for
+    /// is read, and stands beside the words.
+    Find {
+        words: SearchWords<'a>,
+        name: Option<String>,
+    },
     /// Tell the fingerprints of what a verifier is asked about a value of that kind, under the issuer's key, and with parts what is
     /// verified too: algorithm, key, message and signature.
     Prints {

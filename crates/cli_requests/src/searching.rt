@@ -1,8 +1,11 @@
 //! Searches that a line asks for.
-ghost use Rattle.std.specs.Prelude.{◌≡◌, IfErr, IfOk, Some, map, option_map};
+ghost use Rattle.std.specs.Prelude.{◌≡◌, IfErr, IfOk, None, Some, map, option_map, string_bytes};
 ghost use Rattle.cli_words.specs.SearchTexts.{seen_search_words};
-ghost use Rattle.cli_requests.specs.Requests.{IsNone, find_in, if_given, name_in, named_in, octets_of_words, search_files, search_in, search_operands, search_texts, seen_files, seen_request};
+ghost use Rattle.cli_requests.specs.Operands.{text_in};
+ghost use Rattle.cli_requests.specs.Requests.{IsNone, find_in, if_given, name_in, named_in, octets_of_words, search_files, search_for};
+ghost use Rattle.cli_requests.specs.Requests.{search_in, search_operands, search_texts, seen_files, seen_request};
 
+use crate::operand::text_in;
 use crate::request::{Request, RequestFault, check_operands, purpose_in};
 use cli_words::SearchWords;
 use std::alloc::{AllocError, Global};
@@ -74,17 +77,16 @@ fn search_words<'a>(
     alloc: Global,
     moment: &'a str,
     purpose: Option<&'a str>,
-    name: Option<&'a str>,
     files: SearchFiles<'a>,
 ) -> Result<SearchWords<'a>, AllocError>
     ensures { IfOk result (λ words. seen_search_words words
         ≡ search_texts moment.entry.now (option_map (λ text. text.now) purpose.entry)
-        (option_map (λ text. text.now) name.entry) (seen_files files.entry)) }
+        None (seen_files files.entry)) }
 {
     Ok(SearchWords {
         moment,
         purpose,
-        name,
+        name: None,
         anchors: if_given(alloc, Some(files.anchors))?,
         among: if_given(alloc, files.among)?,
         target: files.target,
@@ -96,20 +98,42 @@ fn search_in<'a>(
     alloc: Global,
     moment: &'a str,
     purpose: Option<&'a str>,
-    name: Option<&'a str>,
+    name: Option<String>,
     words: &[&'a str],
 ) -> Result<Request<'a>, RequestFault>
     ensures reads { IfOk result (λ request.
         search_in moment.entry.now (option_map (λ text. text.now) purpose.entry)
-        (option_map (λ text. text.now) name.entry) (octets_of_words words.now)
+        (option_map (λ text. string_bytes text) name) (octets_of_words words.now)
         ≡ Some (seen_request request)) }
     ensures refuses { IfErr result (IsNone
         (search_in moment.entry.now (option_map (λ text. text.now) purpose.entry)
-        (option_map (λ text. text.now) name.entry) (octets_of_words words.now))) }
+        (option_map (λ text. string_bytes text) name) (octets_of_words words.now))) }
 {
     let files = search_operands(alloc, words)?;
-    let words = search_words(alloc, moment, purpose, name, files)?;
-    Ok(Request::Find(words))
+    let words = search_words(alloc, moment, purpose, files)?;
+    Ok(Request::Find { words, name })
+}
+
+// The search for the name that the word writes.
+fn search_for<'a>(
+    alloc: Global,
+    moment: &'a str,
+    purpose: Option<&'a str>,
+    name: &str,
+    words: &[&'a str],
+) -> Result<Request<'a>, RequestFault>
+    ensures reads { IfOk result (λ request.
+        search_for moment.entry.now (option_map (λ text. text.now) purpose.entry)
+        (text_in name.now) (octets_of_words words.now)
+        ≡ Some (seen_request request)) }
+    ensures refuses { IfErr result (IsNone
+        (search_for moment.entry.now (option_map (λ text. text.now) purpose.entry)
+        (text_in name.now) (octets_of_words words.now))) }
+{
+    match text_in(alloc, name.as_bytes())? {
+        Some(name) => search_in(alloc, moment, purpose, Some(name), words),
+        None => Err(RequestFault::Malformed),
+    }
 }
 
 // The name that the word says.
@@ -137,7 +161,7 @@ fn named_in<'a>(
         return Err(RequestFault::Malformed);
     };
     match name_in(first) {
-        Some(name) => search_in(alloc, moment, purpose, Some(name), others),
+        Some(name) => search_for(alloc, moment, purpose, name, others),
         None => search_in(alloc, moment, purpose, None, words),
     }
 }

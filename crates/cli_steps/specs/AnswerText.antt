@@ -13,7 +13,8 @@ use Rattle.cli_steps.specs.declared.policy_verdict.PolicyVerdict.{PolicyVerdict}
 use Rattle.cli_failures.specs.Report.{exit_status, told_line}
 use Rattle.cli_failures.specs.declared.failure.Failure.{Failure}
 use Rattle.cli_steps.specs.declared.answer.SessionAnswer.{SessionAnswer}
-use Rattle.cli_steps.specs.declared.answer.SessionAnswer.TheVariants.{Nothing, Believes, Forgets, Ends, Delivered, Told, ToldWithPolicies, Found, Prints, Listed, Failed, BadLine, LongLine}
+use Rattle.cli_steps.specs.declared.answer.SessionAnswer.TheVariants.{Nothing, Believes, Forgets, Ends, Delivered, Told, ToldWithPolicies}
+use Rattle.cli_steps.specs.declared.answer.SessionAnswer.TheVariants.{Found, Prints, Listed, Failed, BadLine, LongLine}
 
 -- how many lines a text has
 abbrev pub feeds_in : List ℕ → ℕ

@@ -36,6 +36,10 @@ FindingBy R = R → R → Accepts → Search → FindingBudget → Result Findin
 
 -- ---- what is asked
 
+-- the texts, with this name in place of theirs
+abbrev pub with_name : Option (List ℕ) → SearchTexts → SearchTexts
+with_name name texts = record texts { name = name }
+
 -- what is searched, and for whom the target is to speak
 pub record SearchAsked : Type 0 where
   pub search : Search

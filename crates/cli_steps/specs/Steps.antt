@@ -18,7 +18,8 @@ use Rattle.cli_failures.specs.declared.failure.Failure.TheVariants.{NoMemory}
 use Rattle.cli_listing.specs.HeldText.{IsListingOf}
 use Rattle.cli_operands.specs.Asked.{AcceptsJust, Asks, IsBadMoment, IsFailureOfQuery, IsMomentOf}
 use Rattle.cli_operands.specs.InOrder.{FailsFirst}
-use Rattle.cli_requests.specs.Requests.{Request, SearchFiles, if_given, nothing, believe, deliver, check, check_with_policies, find, prints, search_prints, list, forget, quit}
+use Rattle.cli_requests.specs.Requests.{Request, SearchFiles, if_given, nothing, believe, deliver, check, check_with_policies, find, prints}
+use Rattle.cli_requests.specs.Requests.{search_prints, list, forget, quit}
 use Rattle.cli_showing.specs.Shown.{ArePrintsUnder, IsFailureOfPrints}
 use Rattle.cli_words.specs.PolicyTexts.{PolicyTexts}
 use Rattle.cli_words.specs.QueryTexts.{QueryTexts}
@@ -30,7 +31,8 @@ use Rattle.cli_steps.specs.Passing.{HoldsStatement, IsRefusedFrom}
 use Rattle.cli_steps.specs.SearchPrints.{AreSearchPrints, IsFailureOfSearchPrints}
 use Rattle.cli_steps.specs.State.{SessionState, believing, forgetting, keeping}
 use Rattle.cli_steps.specs.declared.answer.SessionAnswer.{SessionAnswer}
-use Rattle.cli_steps.specs.declared.answer.SessionAnswer.TheVariants.{Nothing, Believes, Forgets, Ends, Delivered, Told, ToldWithPolicies, Found, Prints, Listed, Failed}
+use Rattle.cli_steps.specs.declared.answer.SessionAnswer.TheVariants.{Nothing, Believes, Forgets, Ends, Delivered, Told, ToldWithPolicies}
+use Rattle.cli_steps.specs.declared.answer.SessionAnswer.TheVariants.{Found, Prints, Listed, Failed}
 
 -- ---- deliveries
 

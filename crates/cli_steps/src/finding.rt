@@ -1,5 +1,5 @@
 //! Searches of commands, with a verifier that accepts the signatures whose fingerprints a file lists.
-ghost use Rattle.std.specs.Prelude.{◌≡◌, ◌↔◌, [], IfErr, IfOk, IsTrue, option_map};
+ghost use Rattle.std.specs.Prelude.{◌≡◌, ◌↔◌, [], IfErr, IfOk, IsTrue, List, Option, option_map, ℕ};
 ghost use Rattle.cert.specs.Certificate.{seen_certificate};
 ghost use Rattle.names_identity.specs.Identity.{reference_identity};
 ghost use Rattle.path_issuers.specs.View.{seen_search};
@@ -9,7 +9,7 @@ ghost use Rattle.cli_operands.specs.Asked.{AreTerms};
 ghost use Rattle.cli_operands.specs.Name.{IsNameOf};
 ghost use Rattle.cli_operands.specs.Searching.{IsFailureOfSearched, IsRefusalInSearch};
 ghost use Rattle.cli_steps.specs.Finding.{AnswersIn, IsSearchIn};
-ghost use Rattle.cli_steps.specs.Found.{AnswersFinding, FindsBelieving, FindsByTexts, FindsThen, IsAskedToFind, IsToldOf, SpeaksForName};
+ghost use Rattle.cli_steps.specs.Found.{AnswersFinding, FindsBelieving, FindsByTexts, FindsThen, IsAskedToFind, IsToldOf, SpeaksForName, with_name};
 ghost use Rattle.cli_steps.specs.Passing.{PassesOn};
 ghost use Rattle.cli_steps.specs.Steps.{FindsPath};
 ghost use Rattle.cli_steps.specs.Ways.{MovesParty};
@@ -148,33 +148,35 @@ fn find_on<'a, R: AnswerSearch<'a>, V: Verifier, S: Source>(
     terms: &Terms,
     name: Option<Identity<'_>>,
 ) -> Result<FoundPath<'a>, Failure<'a>>
-    ensures { AreTerms words.now.moment.now (option_map (λ text. text.now) words.now.purpose)
-        terms.now
-        → IsNameOf (option_map (λ text. text.now) words.now.name)
-        (option_map reference_identity name.entry)
-        → PassesOn (IsAskedToFind (S.holds source.now) (seen_search_words words.now))
-        (IsFailureOfSearched (S.holds source.now) (seen_search_words words.now))
-        (λ old new asked. FindsThen R.finds
-        (AnswersFinding (S.holds source.now) (seen_search_words words.now) asked) old new
+    ensures { (said : Option (List ℕ))
+        → AreTerms words.now.moment.now (option_map (λ text. text.now) words.now.purpose) terms.now
+        → IsNameOf said (option_map reference_identity name.entry)
+        → PassesOn
+        (IsAskedToFind (S.holds source.now) (with_name said (seen_search_words words.now)))
+        (IsFailureOfSearched (S.holds source.now) (with_name said (seen_search_words words.now)))
+        (λ old new asked. FindsThen R.finds (AnswersFinding (S.holds source.now)
+        (with_name said (seen_search_words words.now)) asked) old new
         (V.accepts verifier.now) asked.search) receiver.old receiver.new result }
 {
     let operands = read_search_operands(source, alloc, words)?;
     find_of(receiver, alloc, verifier, &operands, terms, name)
 }
 
-// What is found as the words ask, with this verifier.
+// What is found as the words ask, for this name, with this verifier.
 fn find_by_words<'a, R: AnswerSearch<'a>, V: Verifier, S: Source>(
     receiver: &mut R,
     source: &S,
     alloc: Global,
     verifier: &V,
     words: &SearchWords<'a>,
+    name: Option<&str>,
 ) -> Result<FoundPath<'a>, Failure<'a>>
     ensures { FindsByTexts (S.holds source.now) (V.accepts verifier.now)
-        (seen_search_words words.now) R.finds receiver.old receiver.new result }
+        (with_name (option_map (λ text. text.now) name.entry) (seen_search_words words.now))
+        R.finds receiver.old receiver.new result }
 {
     let terms = read_terms(alloc, words.moment, words.purpose)?;
-    let name = read_name(words.name)?;
+    let name = read_name(name)?;
     find_on(
         receiver,
         source,
@@ -186,19 +188,23 @@ fn find_by_words<'a, R: AnswerSearch<'a>, V: Verifier, S: Source>(
     )
 }
 
-/// Tells a session the path that is found to the certificate that the words name, and its verdict by what is held.
+/// Tells a session the path that is found to the certificate that the words name, for this name if there is one, and its verdict by what
+/// is held.
 pub(crate) fn find<'a, K: Keeper, S: Source>(
     party: &mut Party<K>,
     source: &S,
     alloc: Global,
     words: &SearchWords<'a>,
+    name: Option<&str>,
 ) -> SessionAnswer<'a>
     ensures clean { K.is_clean party.new.keeper → K.is_clean party.old.keeper }
     ensures steps { MovesParty K.is_clean K.keeps party.old party.new (λ old new.
-        FindsPath (S.holds source.now) (seen_search_words words.now) old result × (new ≡ old)) }
+        FindsPath (S.holds source.now)
+        (with_name (option_map (λ text. text.now) name.entry) (seen_search_words words.now))
+        old result × (new ≡ old)) }
 {
     let (keeper, verifier) = (&mut party.keeper, &party.believed);
-    match find_by_words(keeper, source, alloc, verifier, words) {
+    match find_by_words(keeper, source, alloc, verifier, words, name) {
         Ok(found) => SessionAnswer::Found(found),
         Err(failure) => SessionAnswer::Failed(failure),
     }

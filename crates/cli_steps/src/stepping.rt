@@ -41,7 +41,11 @@ pub fn step<'a, K: Keeper, S: Source>(
         Request::CheckWithPolicies { query, policies } => {
             check_with_policies(party, &operands, alloc, &query, &policies)
         }
-        Request::Find(words) => find(party, &operands, alloc, &words),
+        Request::Find {
+            words,
+            name: Some(name),
+        } => find(party, &operands, alloc, &words, Some(name.as_str())),
+        Request::Find { words, name: None } => find(party, &operands, alloc, &words, None),
         Request::Prints {
             kind,
             with_parts,

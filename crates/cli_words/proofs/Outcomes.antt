@@ -7,7 +7,7 @@ use Rattle.cli_words.specs.App.{program}
 use Rattle.clap.specs.Kinds.{Kinds, HasKind, IsAmong}
 use Rattle.clap.specs.declared.error.Error.{Error}
 use Rattle.clap.specs.declared.error.kind.ErrorKind.TheVariants.{OutOfMemory}
-use Rattle.cli_words.specs.CommandLine.{Ask, AskToFind, AreRefusedWith, HasFlaw, HasNoLine, HasNoPolicy, HasOtherKind, IsErrorOf, IsLine, IsLineOf, IsRefusedWith, LacksOneOf, ReadsLine, TakesOtherKind, has_policy_flag, is_set, kind_in_rows, kind_or_certificate, of_check, of_compare, of_deliver, of_file, of_find, of_prints, of_store, words_in}
+use Rattle.cli_words.specs.CommandLine.{Ask, AskToFind, AreRefusedByCommand, HasFlaw, HasNoLine, HasNoPolicy, HasOtherKind, IsErrorOf, IsLine, IsLineOf, IsRefusedWith, LacksOneOf, ReadsLine, TakesOtherKind, has_policy_flag, is_set, kind_in_rows, kind_or_certificate, of_check, of_compare, of_deliver, of_file, of_find, of_prints, of_store, words_in}
 use Rattle.cli_words.specs.PlainLine.{IsCheck, IsCompare, IsDeliver, IsExplain, IsFind, IsList, IsListAt, IsPlainWord, IsPrints, IsSession, IsShow, IsTree, search_texts}
 use Rattle.cli_words.specs.declared.line.Kind.TheVariants.{Certificate}
 use Rattle.cli_words.specs.declared.line.Line.{Line}
@@ -37,7 +37,7 @@ errs_as P (Ok v) x h b = absurd b
 errs_as P (Err e) x h b = subst P (sym b) h
 
 -- what clap's definition gives is a refusal
-pub refused_with : (words : List Text) (e : Error) → HasKind (fault_of program words) e → (kind_of e ≡ OutOfMemory) ⊎ AreRefusedWith words (kind_of e)
+pub refused_with : (words : List Text) (e : Error) → HasKind (fault_of program words) e → (kind_of e ≡ OutOfMemory) ⊎ AreRefusedByCommand words (kind_of e)
 refused_with words e h = elim h [ inl memory ↦ inl memory | inr among ↦ inr (inl among) ]
 
 -- and so is a flaw of the subcommand
@@ -49,7 +49,7 @@ refused entered NoMemory kind has is = absurd is
 
 pub or_refused : (words : List Text) (r : Result Line Error)
     → IfErr r (λ e. (kind_of e ≡ OutOfMemory) ⊎ IsRefusedWith (subcommand_of program words) (kind_of e))
-    → IfErr r (λ e. (kind_of e ≡ OutOfMemory) ⊎ AreRefusedWith words (kind_of e))
+    → IfErr r (λ e. (kind_of e ≡ OutOfMemory) ⊎ AreRefusedByCommand words (kind_of e))
 or_refused words (Ok line) h = tt
 or_refused words (Err e) h = elim h [ inl memory ↦ inl memory | inr is ↦ inr (inr is) ]
 
@@ -57,7 +57,7 @@ or_refused words (Err e) h = elim h [ inl memory ↦ inl memory | inr is ↦ inr
 pub known : (P : Line → Type 0) (words : List Text) (r : Result Line Error) → fault_of program words ≡ []
     → (HasNoLine (subcommand_of program words) → ⊥) → (HasOtherKind (subcommand_of program words) → ⊥) → (HasNoPolicy (subcommand_of program words) → ⊥)
     → ((line : Line) → IsLineOf (subcommand_of program words) line → P line)
-    → IfOk r (ReadsLine words) → IfErr r (λ e. (kind_of e ≡ OutOfMemory) ⊎ AreRefusedWith words (kind_of e))
+    → IfOk r (ReadsLine words) → IfErr r (λ e. (kind_of e ≡ OutOfMemory) ⊎ AreRefusedByCommand words (kind_of e))
     → MatchResult r P (λ e. kind_of e ≡ OutOfMemory)
 known P words (Ok line) well there kind policy means reads refuses = means line reads.1
 known P words (Err e) well there kind policy means reads refuses =
@@ -72,7 +72,7 @@ known P words (Err e) well there kind policy means reads refuses =
 -- what is said of the line that the words are, or of the error
 pub record IsReadAs (words : List Text) (r : Result Line Error) : Type 0 where
   pub reads : IfOk r (ReadsLine words)
-  pub refuses : IfErr r (λ e. (kind_of e ≡ OutOfMemory) ⊎ AreRefusedWith words (kind_of e))
+  pub refuses : IfErr r (λ e. (kind_of e ≡ OutOfMemory) ⊎ AreRefusedByCommand words (kind_of e))
 
 -- the line is one of the rows that were entered
 same_rows : (p : Text × List Row) (name : Text) (rows : List Row) → Some p ≡ Some (name, rows) → p ≡ (name, rows)

@@ -1,16 +1,18 @@
 -- What a line is, by the matches that clap's definition of a simple command gives for the words.
-use Rattle.std.specs.Prelude.{◌≡◌, ◌≢◌, ◌⊎◌, ◌||◌, [], ◌∷◌, Bool, true, false, List, Option, Some, None, codes, map, option_map, if◌then◌else◌}
+use Rattle.std.specs.Prelude.{◌≡◌, ◌≢◌, ◌⊎◌, ◌||◌, [], ◌∷◌, Bool, true, false, List, Option, Some, None, Result, Ok, Err, codes, map, option_map, if◌then◌else◌}
 use Rattle.std.specs.Str.{bytes_eq}
 use Rattle.std.specs.Borrow.{Bor}
-use Rattle.clap.specs.Words.{IsAmong, Row, Text, all_of, fault_of, first_of, subcommand_of}
+use Rattle.clap.specs.Words.{IsAmong, Row, Text, all_of, fault_of, first_of, kind_of, subcommand_of}
+use Rattle.clap.specs.declared.error.Error.{Error}
 use Rattle.clap.specs.declared.error.kind.ErrorKind.{ErrorKind}
-use Rattle.clap.specs.declared.error.kind.ErrorKind.TheVariants.{InvalidValue, MissingRequiredArgument}
+use Rattle.clap.specs.declared.error.kind.ErrorKind.TheVariants.{InvalidValue, MissingRequiredArgument, OutOfMemory}
 use Rattle.cli_words.specs.App.{program}
 use Rattle.cli_words.specs.declared.line.Line.{Line}
 use Rattle.cli_words.specs.declared.line.Line.TheVariants.{Tree, Show, Prints, SearchPrints, Deliver, Check, CheckWithPolicies, Compare, Find, Explain, Session, List as Lists}
 use Rattle.cli_words.specs.QueryTexts.{QueryTexts, seen_words}
 use Rattle.cli_words.specs.SearchTexts.{SearchTexts, seen_search_words}
 use Rattle.cli_words.specs.PolicyTexts.{PolicyTexts, seen_policy_words}
+use Rattle.cli_words.specs.RunOptions.{LacksValue}
 use Rattle.cli_words.specs.declared.line.Kind.{Kind}
 use Rattle.cli_words.specs.declared.line.Kind.TheVariants.{Certificate, RevocationList, Response}
 use Rattle.cli_words.specs.declared.line.Flaw.{Flaw}
@@ -257,10 +259,19 @@ IsRefusedWith entered kind =
     ⊎ ((kind ≡ InvalidValue) × HasOtherKind entered)
     ⊎ ((kind ≡ MissingRequiredArgument) × HasNoPolicy entered)
 
--- the words are: clap's definition gives the error, or their subcommand is
-abbrev pub AreRefusedWith : List Text → ErrorKind → Type 0
-AreRefusedWith words kind =
+-- the words are, as the program's command reads them: clap's definition gives the error, or their subcommand is
+abbrev pub AreRefusedByCommand : List Text → ErrorKind → Type 0
+AreRefusedByCommand words kind =
     IsAmong kind (fault_of program words) ⊎ IsRefusedWith (subcommand_of program words) kind
+
+-- the words are: so, or since an option for the whole run, in front of the command, lacks its value
+abbrev pub AreRefusedWith : List Text → ErrorKind → Type 0
+AreRefusedWith words kind = AreRefusedByCommand words kind ⊎ ((kind ≡ InvalidValue) × LacksValue words)
+
+-- they are refused because of that, memory aside
+abbrev pub IsRefusedValue : Result Line Error → Type 0
+IsRefusedValue (Ok line) = ⊥
+IsRefusedValue (Err error) = (kind_of error ≡ OutOfMemory) ⊎ (kind_of error ≡ InvalidValue)
 
 -- the kind of error of a flaw, if there is memory
 abbrev pub IsErrorOf : Flaw → ErrorKind → Type 0

@@ -31,6 +31,13 @@ abbrev pub BeginsWithoutProfile : List Text → Type 0
 BeginsWithoutProfile [] = Unit {0}
 BeginsWithoutProfile (word ∷ words) = (profile : Profile) → IsProfileName word profile → ⊥
 
+-- behind the program's name stands an option for the whole run, and behind that no value of its own
+abbrev pub LacksValue : List Text → Type 0
+LacksValue (name ∷ option ∷ words) =
+    ((option ≡ codes "--wait") × BeginsWithoutSeconds words)
+    ⊎ ((option ≡ codes "--profile") × BeginsWithoutProfile words)
+LacksValue _ = ⊥
+
 -- the words begin with no option for the whole run
 abbrev pub BeginsWithNone : List Text → Type 0
 BeginsWithNone [] = Unit {0}

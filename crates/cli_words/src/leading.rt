@@ -1,7 +1,7 @@
 //! What the words in front of the command ask of the whole run.
 ghost use Rattle.std.specs.Prelude.{◌≡◌, ◌∷◌, IfNone, IfSome, map};
 ghost use Rattle.statements_facts.specs.declared.profile.Profile.{Profile};
-ghost use Rattle.cli_words.specs.RunOptions.{BeginsWithoutProfile, BeginsWithoutSeconds, EndsWith, IsProfileName, IsSeconds, TakesOption, TakesOptions};
+ghost use Rattle.cli_words.specs.RunOptions.{BeginsWithoutProfile, BeginsWithoutSeconds, EndsWith, IsProfileName, IsSeconds, LacksValue, TakesOption, TakesOptions};
 
 use statements_facts::Profile;
 
@@ -71,6 +71,30 @@ fn profile_in<'w, 'a>(words: &'w [&'a str]) -> Option<(Profile, &'w [&'a str])>
     }
 }
 
+/// What the option for the whole run with which the command begins wants behind it, if no such value stands there.
+pub(crate) fn value_wanted(words: &[&str]) -> Option<&'static str>
+    ensures lacks { IfSome result (λ _. LacksValue (map (λ w. w.now) words.now)) }
+    ensures none { IfNone result (LacksValue (map (λ w. w.now) words.now) → ⊥) }
+{
+    let [_, command @ ..] = words else {
+        return None;
+    };
+    let [option, values @ ..] = command else {
+        return None;
+    };
+    match *option {
+        "--wait" => match seconds_in(values) {
+            Some(_) => None,
+            None => Some("SECONDS has to be a number from 0 to 65535"),
+        },
+        "--profile" => match profile_in(values) {
+            Some(_) => None,
+            None => Some("PROFILE has to be 'stated' or 'wide'"),
+        },
+        _ => None,
+    }
+}
+
 // The option that the words begin with is taken; words that begin with none stay.
 fn take_option<'w, 'a>(it: RunWords<'w, 'a>) -> RunWords<'w, 'a>
     ensures takes { TakesOption it.entry.options (map (λ w. w.now) it.entry.words.now)
@@ -109,8 +133,8 @@ fn take_option<'w, 'a>(it: RunWords<'w, 'a>) -> RunWords<'w, 'a>
 
 /// Splits the words into the options of the run, which stand first, and the command with its own words. Options are `--hints`,
 /// `--wait SECONDS` (0 to 65535) and `--profile PROFILE` (`stated` or `wide`), in any order, at most three of them. By default there are no
-/// hints, a store is waited for ten seconds, and the profile is the stated one. Any other word in front stays with the command, which
-/// refuses it.
+/// hints, a store is waited for ten seconds, and the profile is the stated one. An option without a value of its own, and any other word in
+/// front, stays with the command, which refuses it.
 pub fn run_options<'w, 'a>(words: &'w [&'a str]) -> RunWords<'w, 'a>
     ensures takes { TakesOptions (map (λ w. w.now) words.now) result.options
         (map (λ w. w.now) result.words.now) }

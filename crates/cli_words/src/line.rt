@@ -1,14 +1,19 @@
 //! What a command line asks for.
 ghost use Rattle.std.specs.Prelude.{◌≡◌, ◌<◌, ◌^◌, ◌⊎◌, ◌∷◌, IfErr, IfOk, MatchResult, None, Some, codes, length, map, option_map};
 ghost use Rattle.clap.specs.Words.{Text, all_of, app_of, found_of, kind_of, rows_of, subcommand_rows_of};
-ghost use Rattle.clap.specs.declared.error.kind.ErrorKind.TheVariants.{OutOfMemory};
+ghost use Rattle.clap.specs.declared.error.kind.ErrorKind.TheVariants.{InvalidValue, OutOfMemory};
 ghost use Rattle.cli_words.specs.declared.line.Flaw.TheVariants.{NoMemory, OtherKind};
 ghost use Rattle.cli_words.specs.App.{program as program_app};
-ghost use Rattle.cli_words.specs.CommandLine.{AreRefusedWith, AskNoPolicies, HasFlaw, IsErrorOf, GivesTexts, IsFlawOfCheck, IsFlawOfPrints, IsFlawOfQuestion, IsFlawOfShow, IsLack, IsLine, IsLineOf, IsRefusedWith, ReadsLine, kind_in_rows, kind_or_certificate, of_compare, of_deliver, of_file, of_find, of_store};
+ghost use Rattle.cli_words.specs.CommandLine.{AreRefusedByCommand, AreRefusedWith, AskNoPolicies, HasFlaw, IsErrorOf, GivesTexts};
+ghost use Rattle.cli_words.specs.CommandLine.{IsFlawOfCheck, IsFlawOfPrints, IsFlawOfQuestion, IsFlawOfShow, IsLack, IsLine, IsLineOf};
+ghost use Rattle.cli_words.specs.CommandLine.{IsRefusedValue, IsRefusedWith, ReadsLine, kind_in_rows, kind_or_certificate, of_compare};
+ghost use Rattle.cli_words.specs.CommandLine.{of_deliver, of_file, of_find, of_store};
+ghost use Rattle.cli_words.specs.RunOptions.{LacksValue};
 ghost use Rattle.cli_words.specs.PlainLine.{IsOutOfMemory, PlainLine, SpellsLine, plain_words};
 
 use crate::app::program;
 use crate::arguments::{any_words, is_set, text, words};
+use crate::leading::value_wanted;
 use crate::policies::{PolicyWords, has_policy_flag, policies_asked};
 use crate::query::{QueryWords, asked};
 use crate::search::{SearchWords, asked_to_find};
@@ -439,7 +444,7 @@ fn line_by<'a>(
     requires { app_of command.old ≡ program_app }
     ensures reads { IfOk result (ReadsLine (map (λ w. w.now) words.entry.now)) }
     ensures refuses { IfErr result (λ e. (kind_of e ≡ OutOfMemory)
-        ⊎ AreRefusedWith (map (λ w. w.now) words.entry.now) (kind_of e)) }
+        ⊎ AreRefusedByCommand (map (λ w. w.now) words.entry.now) (kind_of e)) }
 {
     let matches = command.try_get_matches_from_mut(words)?;
     line_or_error(alloc, command, &matches)
@@ -449,14 +454,27 @@ fn line_by<'a>(
 fn line_of_words<'a>(alloc: Global, words: &'a [&'a str]) -> Result<Line<'a>, Error>
     ensures reads { IfOk result (ReadsLine (map (λ w. w.now) words.entry.now)) }
     ensures refuses { IfErr result (λ e. (kind_of e ≡ OutOfMemory)
-        ⊎ AreRefusedWith (map (λ w. w.now) words.entry.now) (kind_of e)) }
+        ⊎ AreRefusedByCommand (map (λ w. w.now) words.entry.now) (kind_of e)) }
 {
     let mut command = program(alloc)?;
     line_by(alloc, &mut command, words)
 }
 
+// The error of an option in front of the command that wants another value than this one.
+fn value_error(alloc: Global, wanted: &str, value: &str) -> Result<Error, AllocError>
+    ensures { IfOk result (λ e. kind_of e ≡ InvalidValue) }
+{
+    let mut message = String::from_str(alloc, wanted)?;
+    message.push_str(", not '")?;
+    message.push_str(value)?;
+    message.push_str("'")?;
+    let mut command = program(alloc)?;
+    command.error(ErrorKind::InvalidValue, message.as_str())
+}
+
 /// The line that the words are, of which the first is the program's name, as in `env::args`. The words belong to one
-/// command line: an error has clap's text, and for help `use_stderr()` of it is false.
+/// command line: an error has clap's text, and for help `use_stderr()` of it is false. If an option for the whole run is left in front
+/// (`run_options`), the error says what its value has to be, and what stands there.
 pub fn command_of<'a>(alloc: Global, words: &'a [&'a str]) -> Result<Line<'a>, Error>
     ensures reads { IfOk result (ReadsLine (map (λ w. w.now) words.entry.now)) }
     ensures plain { (name : Text) (line : PlainLine)
@@ -464,7 +482,15 @@ pub fn command_of<'a>(alloc: Global, words: &'a [&'a str]) -> Result<Line<'a>, E
         → MatchResult result (SpellsLine line) IsOutOfMemory }
     ensures refuses { IfErr result (λ e. (kind_of e ≡ OutOfMemory)
         ⊎ AreRefusedWith (map (λ w. w.now) words.entry.now) (kind_of e)) }
+    ensures value { LacksValue (map (λ w. w.now) words.entry.now) → IsRefusedValue result }
 {
+    if let Some(wanted) = value_wanted(words) {
+        let value = match words.get(2) {
+            Some(value) => *value,
+            None => "",
+        };
+        return Err(value_error(alloc, wanted, value)?);
+    }
     // There are fewer words than the most that clap takes of one argument.
     let _count = count_of(words);
     line_of_words(alloc, words)

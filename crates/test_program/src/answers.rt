@@ -65,6 +65,7 @@ const ROWS: &[(&str, &str)] = &[
         "find 20250615000000Z purpose=1.2 name=a@ a b\n",
         "5 bad name at 2\n",
     ),
+    ("find 20250615000000Z name=a\\40 a b\n", "5 bad name at 2\n"),
     ("find 20250615000000Z name=a a b c\n", "6 cannot read c\n"),
     ("find 20250615000000Z b\n", "5 bad line\n"),
     ("find 20250615000000Z a b c d\n", "5 bad line\n"),

@@ -19,9 +19,13 @@ pub const FIRST: i64 = 1_796_083_200;
 pub const LAST: i64 = 1_804_136_767;
 
 fn issuer(alloc: Global, id: u32, key_info: &[u8]) -> Option<HeldIssuer> {
+    named_issuer(alloc, id, b"name", key_info)
+}
+
+fn named_issuer(alloc: Global, id: u32, name: &[u8], key_info: &[u8]) -> Option<HeldIssuer> {
     Some(HeldIssuer {
         id,
-        name: NameKey::from_octets(Vec::from_slice(alloc, b"name").ok()?),
+        name: NameKey::from_octets(Vec::from_slice(alloc, name).ok()?),
         key_info: Vec::from_slice(alloc, key_info).ok()?,
     })
 }
@@ -90,4 +94,29 @@ pub fn far(alloc: Global) -> Option<Listing> {
         lists: Vec::from_slice(alloc, &lists).ok()?,
         singles: Vec::new(alloc),
     })
+}
+
+/// Lists of one issuer, whose name is `CN=A`, and its lists at points with these general names.
+pub fn at_points(alloc: Global, points: &[&[u8]]) -> Option<Listing> {
+    let mut all = Listing {
+        issuers: Vec::new(alloc),
+        lists: Vec::new(alloc),
+        singles: Vec::new(alloc),
+    };
+    for (place, point) in points.iter().enumerate() {
+        let mut name = Vec::from_slice(
+            alloc,
+            b"\0\0\0\x01\0\0\0\x01\0\0\0\x03\x55\x04\x03\x01\0\0\0\x01a",
+        )
+        .ok()?;
+        name.extend_from_slice(point).ok()?;
+        let id = place as u32 + 1;
+        all.issuers
+            .push(named_issuer(alloc, id, name.as_slice(), b"abc")?)
+            .ok()?;
+        all.lists
+            .push(list(id, Scope::All, 5, FIRST, LAST, 0))
+            .ok()?;
+    }
+    Some(all)
 }

@@ -1,8 +1,11 @@
 //! Options in front of the command.
 
-use cli_words::{RunOptions, run_options};
+use clap::error::ErrorKind;
+use cli_words::{RunOptions, command_of, run_options};
 use statements_facts::Profile;
 use statements_facts::Profile::{Stated, Wide};
+use std::io::Write;
+use std::test::Fail;
 
 // Words behind the program's name; whether there are hints, for how many seconds a store is waited for, the profile, and how many words are
 // left.
@@ -72,6 +75,38 @@ const ROWS: &[(&[&str], bool, u16, Profile, usize)] = &[
     (&["--profile=wide", "check"], false, 10, Stated, 2),
     (&["check", "--profile", "wide"], false, 10, Stated, 3),
 ];
+
+// Command lines with an option in front that lacks its value, and what the error says of it.
+const WITHOUT_VALUE: &[(&[&str], &str)] = &[
+    (
+        &["x509check", "--profile", "broad", "list", "--store", "s"],
+        "error: PROFILE has to be 'stated' or 'wide', not 'broad'\n",
+    ),
+    (
+        &["x509check", "--profile", "--hints", "tree", "a"],
+        "error: PROFILE has to be 'stated' or 'wide', not '--hints'\n",
+    ),
+    (
+        &["x509check", "--profile"],
+        "error: PROFILE has to be 'stated' or 'wide', not ''\n",
+    ),
+    (
+        &["x509check", "--wait", "65536", "tree", "a"],
+        "error: SECONDS has to be a number from 0 to 65535, not '65536'\n",
+    ),
+];
+
+#[test]
+fn a_value_that_is_none_is_named(rt: HostRuntime) -> Result<(), Fail> {
+    for (words, wanted) in WITHOUT_VALUE.iter() {
+        let error = command_of(rt.alloc(), words).err().ok_or("an error")?;
+        let mut text = Vec::new(rt.alloc());
+        write!(text, "{error}")?;
+        assert!(rt; text.starts_with(wanted.as_bytes()), "{words:?}");
+        assert!(rt; error.kind() == ErrorKind::InvalidValue, "{words:?}");
+    }
+    Ok(())
+}
 
 #[test]
 fn options_stand_in_front(rt: HostRuntime) {

@@ -40,6 +40,8 @@ const BAD: &[&str] = &[
     "find 20250615000000Z purpose=1.2 name=x a",
     "find 20250615000000Z a b c d",
     "find 20250615000000Z a b hex:0",
+    "find 20250615000000Z name=x\\4 a b",
+    "find 20250615000000Z name=x\\ff a b",
     "prints search a",
     "prints search a b c d",
     "prints parts search",
@@ -203,15 +205,18 @@ fn reads_searches(rt: HostRuntime) -> Result<(), Fail> {
     let (mut anchors, mut among) = (Vec::new(alloc), Vec::new(alloc));
     anchors.push("a")?;
     among.push("b")?;
-    let expected = Request::Find(SearchWords {
-        moment: "20250615000000Z",
-        purpose: Some("1.2.3"),
-        name: Some("x.example"),
-        anchors,
-        among,
-        target: "c",
-    });
-    let line = b"find 20250615000000Z purpose=1.2.3 name=x.example a b c";
+    let expected = Request::Find {
+        words: SearchWords {
+            moment: "20250615000000Z",
+            purpose: Some("1.2.3"),
+            name: None,
+            anchors,
+            among,
+            target: "c",
+        },
+        name: Some(String::from_str(alloc, "x y@z\\\u{e9}")?),
+    };
+    let line = b"find 20250615000000Z purpose=1.2.3 name=x\\20y@\\7a\\5c\\c3\\A9 a b c";
     assert!(rt; request_of(alloc, line)? == expected);
     let prints = request_of(alloc, b"prints parts search a b")?;
     assert!(rt;

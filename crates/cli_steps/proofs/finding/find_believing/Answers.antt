@@ -52,4 +52,4 @@ returns g c =
       make_terms texts.moment texts.purpose c.in_ok-terms.terms named,
       inr ((option_map identity_named c.in_ok-name.name, of), inr ((c.in_ok-prints.prints.items, c.in_ok-prints.ensures.reads), fails)),
     ))
-    (c.find_on.ensures named of_identity)
+    (c.find_on.ensures texts.name named of_identity)

@@ -4,7 +4,7 @@ use Rattle.clap.specs.Words.{App, Row, Text, is_simple, is_simple_and_free, faul
 use Rattle.clap.specs.Kinds.{HasKind}
 use Rattle.clap.specs.declared.error.kind.ErrorKind.TheVariants.{OutOfMemory}
 use Rattle.cli_words.specs.App.{program}
-use Rattle.cli_words.specs.CommandLine.{AreRefusedWith, IsLineOf, IsRefusedWith, ReadsLine}
+use Rattle.cli_words.specs.CommandLine.{AreRefusedByCommand, IsLineOf, IsRefusedWith, ReadsLine}
 use Rattle.cli_words.proofs.TreeWords.{program_is_simple, program_is_free}
 use Rattle.cli_words.proofs.Outcomes.{errs_as, or_refused, refused_with}
 use Rattle.cli_words.proofs.line.line_by.Goals as goal
@@ -35,6 +35,6 @@ returns-in_err-matches-clause-refuses c =
     let words = map (λ s. s.now) c.args.words.now in
     let kinds = c.in_err-matches.ensures.kinds (ap is_simple_and_free app ∙ program_is_free) in
     let known = subst (λ (a : App). HasKind (fault_of a words) c.in_err-matches.field-0.0) app kinds in
-    errs_as (λ e. (kind_of e ≡ OutOfMemory) ⊎ AreRefusedWith words (kind_of e)) _ c.in_err-matches.field-0.0
+    errs_as (λ e. (kind_of e ≡ OutOfMemory) ⊎ AreRefusedByCommand words (kind_of e)) _ c.in_err-matches.field-0.0
     (refused_with words c.in_err-matches.field-0.0 known)
     c.from_residual.ensures.1
