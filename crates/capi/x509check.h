@@ -23,8 +23,8 @@ extern "C" {
 #endif
 
 /* The version of this header and of the library beside it: as text, and as 10000 * major + 100 * minor + patch. */
-#define X509CHECK_VERSION "1.0.1"
-#define X509CHECK_VERSION_NUMBER 10001
+#define X509CHECK_VERSION "1.1.0"
+#define X509CHECK_VERSION_NUMBER 10100
 
 /* The fault of a certificate whose text, or the value of an extension in it, is not DER. */
 #define X509CHECK_FAULT_DER 21

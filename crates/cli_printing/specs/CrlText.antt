@@ -28,11 +28,12 @@ crl_title = codes "crl\n"
 abbrev pub opening_lines : CertificateList → List ℕ
 opening_lines list = crl_title ++ name_line (codes "issuer") list.issuer.octets
 
--- a line for each general name of the point where it is published; none of a whole list
+-- its scope, and a line for each general name of the point where it is published; none of a whole list
+unfoldable pub covered_lines : CertificateList → List ℕ
+covered_lines list = scope_lines list.scope ++ flat_map point_line list.points
+
 abbrev pub number_lines : CertificateList → List ℕ
-number_lines list =
-    octets_line (codes "number") list.number ++ scope_lines list.scope ++ flat_map point_line list.points
-    ++ span_lines list.this_update list.next_update
+number_lines list = octets_line (codes "number") list.number ++ covered_lines list ++ span_lines list.this_update list.next_update
 
 -- its fields, and then a line for each entry as it stands
 abbrev pub crl_text : CertificateList → List ℕ

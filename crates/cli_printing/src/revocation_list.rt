@@ -3,7 +3,7 @@ ghost use Rattle.std.specs.Prelude.{◌≡◌};
 ghost use Rattle.std.specs.List.{flat_map};
 ghost use Rattle.statements_crl.specs.CertificateList.{seen_list};
 ghost use Rattle.statements_crl.specs.Entry.{entries_left, seen_entry};
-ghost use Rattle.cli_printing.specs.CrlText.{crl_text, entry_line, number_lines, opening_lines, scope_lines, span_lines, crl_title};
+ghost use Rattle.cli_printing.specs.CrlText.{covered_lines, crl_text, entry_line, number_lines, opening_lines, scope_lines, span_lines, crl_title};
 ghost use Rattle.cert_points.specs.CompleteNames.{names_if_any};
 ghost use Rattle.cli_printing.specs.GeneralText.{point_line};
 ghost use Rattle.cli_printing.specs.Written.{Writes};
@@ -37,6 +37,14 @@ fn write_point_lines<W: Write>(points: &Option<GeneralNames<'_>>, writer: &mut W
     }
 }
 
+#[tactic(auto, unfolding(crate::specs::CrlText::covered_lines))]
+fn write_covered<W: Write>(list: &Crl<'_>, writer: &mut W) -> io::Result<()>
+    ensures { Writes W.contents writer.old writer.new result (covered_lines (seen_list list.now)) }
+{
+    write_scope(list.scope, writer)?;
+    write_point_lines(&list.points, writer)
+}
+
 fn write_span<W: Write>(from: i64, until: i64, writer: &mut W) -> io::Result<()>
     ensures { Writes W.contents writer.old writer.new result (span_lines from until) }
 {
@@ -62,8 +70,7 @@ fn write_number<W: Write>(list: &Crl<'_>, writer: &mut W) -> io::Result<()>
     ensures { Writes W.contents writer.old writer.new result (number_lines (seen_list list.now)) }
 {
     write_octets("number", list.number.contents, writer)?;
-    write_scope(list.scope, writer)?;
-    write_point_lines(&list.points, writer)?;
+    write_covered(list, writer)?;
     write_span(list.this_update, list.next_update, writer)
 }
 

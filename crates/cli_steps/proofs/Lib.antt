@@ -2,7 +2,7 @@ mod Answered
 mod Passed
 mod Searched
 mod ToldPolicies
-pub mod Believing
+pub mod Beliefs
 mod Composing
 mod CrashLaws
 mod Lines

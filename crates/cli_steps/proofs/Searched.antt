@@ -20,7 +20,7 @@ use Rattle.cli_operands.specs.declared.search_files.SearchOperands.{SearchOperan
 use Rattle.cli_operands.specs.declared.terms.Terms.{Terms}
 use Rattle.cli_words.specs.SearchTexts.{SearchTexts}
 use Rattle.cli_steps.specs.Finding.{AnswersIn, ArePrintsOf, IsNoPrintOf, IsSearchIn}
-use Rattle.cli_steps.specs.Found.{AnswersFinding, FindingBy, FindsThen, IsAskedToFind, SearchAsked, usual_budget}
+use Rattle.cli_steps.specs.Found.{AnswersFinding, FindingBy, FindsThen, IsAskedToFind, SearchAsked, usual_budget, with_name}
 use Rattle.cli_steps.specs.Passing.{PassesOn}
 use Rattle.cli_steps.specs.SearchPrints.{AreSearchLines, AreSearchPrints, IsFailureOfSearchPrints, files_asked}
 use Rattle.cli_steps.specs.declared.found.FoundPath.{FoundPath}
@@ -46,6 +46,10 @@ in_files holds texts terms it read asked (Of.Found c verdict) answer are of is (
     (λ within. places_stand holds texts terms it read asked.search (seen_candidate c) (map seen_place answer.path.items) are of is within places, told)
 in_files holds texts terms it read asked Of.NotFound answer are of is answers = answers
 in_files holds texts terms it read asked Of.GaveUp answer are of is answers = answers
+
+-- operands are of no name, so they are what the texts with this name ask for
+pub with_this_name : (said : Option (List ℕ)) (holds : Holding) (texts : SearchTexts) (it : SearchOperands) → AreSearchOperands holds texts it → AreSearchOperands holds (with_name said texts) it
+with_this_name said holds texts it are = record { profile = are.profile; target_file = are.target_file; target = are.target; anchors = are.anchors; among = are.among }
 
 -- what operands ask for is what their texts ask for
 module _ {R : Type 0} (Finds : FindingBy R) (old new : R) (accepts : Accepts) (holds : Holding) (texts : SearchTexts) (terms : Terms) (name : Option ReferenceIdentity) (it : SearchOperands)

@@ -41,11 +41,10 @@ pub fn step<'a, K: Keeper, S: Source>(
         Request::CheckWithPolicies { query, policies } => {
             check_with_policies(party, &operands, alloc, &query, &policies)
         }
-        Request::Find {
-            words,
-            name: Some(name),
-        } => find(party, &operands, alloc, &words, Some(name.as_str())),
-        Request::Find { words, name: None } => find(party, &operands, alloc, &words, None),
+        Request::Find { words, name } => match &name {
+            Some(name) => find(party, &operands, alloc, &words, Some(name.as_str())),
+            None => find(party, &operands, alloc, &words, None),
+        },
         Request::Prints {
             kind,
             with_parts,

@@ -7,8 +7,11 @@ use Rattle.std.proofs.lemmas.List.{get_or-append-add, get_or-map}
 use Rattle.std.proofs.lemmas.List.Elements.{All-from_recursion}
 use Rattle.cert.specs.Certificate.{Certificate}
 use Rattle.path_issuers.specs.Links.{certificate_at}
+use Rattle.path_issuers.specs.Questions.{IsThere, issuer_at}
 use Rattle.path_issuers.specs.Search.{Search}
-use Rattle.relying_questions.specs.Issuers.{text_at}
+use Rattle.path_issuers.specs.declared.question.Issuer.{Issuer}
+use Rattle.path_issuers.specs.declared.question.Issuer.TheVariants.{Anchor, Bag}
+use Rattle.relying_questions.specs.Issuers.{text_at, text_of}
 use Rattle.relying_questions.specs.Places.{HasParts, SearchStands, Texts, WasReadInSomeProfile}
 use Rattle.relying_questions.specs.Places.{WereReadForSearch, certificate_text, certificates_of, texts_searched}
 use Rattle.relying_questions.proofs.Kept.{placed}
@@ -44,3 +47,8 @@ place_stands texts s place stands = by (ltb place (length s.bag)) refl where
   by true e = stands.bag place (ltb-true place (length s.bag) e)
   by false e =
       subst (HasParts (certificate_text texts (length s.anchors))) (sym (get_or-eq_default s.bag s.target (ltb-false place (length s.bag) e))) stands.target
+
+-- and that of an issuer
+pub issuer_stands : (texts : Texts) (s : Search) (issuer : Issuer) → SearchStands texts s → IsThere s issuer → HasParts (certificate_text texts (text_of s issuer)) (issuer_at s issuer)
+issuer_stands texts s (Anchor place) stands there = stands.anchors place there
+issuer_stands texts s (Bag place) stands there = place_stands texts s place stands

@@ -14,6 +14,7 @@ use Rattle.cert.specs.SubjectPublicKeyInfo.{SubjectPublicKeyInfo}
 use Rattle.cert.specs.Extensions.{no_extensions}
 use Rattle.cert.specs.Certificate.{Certificate, certificate}
 use Rattle.cert.specs.CertificateHosts.{no_hosts}
+use Rattle.cert.specs.ExtensionValues.{no_values}
 use Rattle.test_premises.specs.Octets.{anchor_der, anchor_tbs, anchor_signature, target_der, target_tbs, target_signature, name_r, name_t, algorithm, key_r, key_t}
 use Rattle.test_premises.proofs.OnLiterals.{on_literals}
 use Rattle.test_premises.proofs.Trees.{anchor_whole, target_whole, ca_octets, ca_whole}
@@ -35,6 +36,10 @@ key_at octets letter = record {
   key = record { value = text_at (drop 8 octets) 87; octets = letter ∷ [] };
 }
 
+-- the OCTET STRING of basicConstraints
+abbrev constraints : Place
+constraints = text_at (0x04 ∷ 0x05 ∷ ca_octets) 105
+
 abbrev pub root : Certificate
 root = record {
   octets = anchor_der;
@@ -46,7 +51,10 @@ root = record {
   validity = record { not_before = pos 1735689600; not_after = pos 1767225600 };
   subject = name_at name_r 65 114;
   key_info = key_at key_r 82;
-  extensions = record no_extensions { basic_constraints = Some (record { ca = true; path_length = None }) };
+  extensions = record no_extensions {
+    basic_constraints = Some (record { ca = true; path_length = None });
+    values = record no_values { basic_constraints = Some constraints };
+  };
   signature = record { value = text_at anchor_signature 118; octets = drop 3 anchor_signature };
   points = [];
   hosts = no_hosts;
@@ -72,10 +80,6 @@ leaf = record {
 pub leaf_is_read : certificate target_der ≡ Ok leaf
 unfolding on_literals
 leaf_is_read = rw (outermost_again target_der target_whole) refl
-
--- the OCTET STRING of basicConstraints
-abbrev constraints : Place
-constraints = text_at (0x04 ∷ 0x05 ∷ ca_octets) 105
 
 pub root_is_read : certificate anchor_der ≡ Ok root
 unfolding on_literals

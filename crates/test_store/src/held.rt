@@ -110,7 +110,7 @@ pub fn at_points(alloc: Global, points: &[&[u8]]) -> Option<Listing> {
         )
         .ok()?;
         name.extend_from_slice(point).ok()?;
-        let id = place as u32 + 1;
+        let id = u32::try_from(place).ok()?.checked_add(1)?;
         all.issuers
             .push(named_issuer(alloc, id, name.as_slice(), b"abc")?)
             .ok()?;

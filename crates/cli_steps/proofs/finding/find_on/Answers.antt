@@ -3,7 +3,7 @@ use Rattle.std.proofs.lemmas.Result.{err_from_is_err_and}
 use Rattle.names_identity.specs.Identity.{reference_identity}
 use Rattle.cli_words.specs.SearchTexts.{seen_search_words}
 use Rattle.cli_steps.specs.Found.{with_name}
-use Rattle.cli_steps.proofs.Searched.{search_passed}
+use Rattle.cli_steps.proofs.Searched.{search_passed, with_this_name}
 use Rattle.cli_steps.proofs.finding.find_on.Goals as goal
 
 pub returns-in_err-operands : goal.returns-in_err-operands
@@ -15,4 +15,5 @@ pub returns : goal.returns
 returns g c = λ said named of.
     search_passed g.R.AnswerSearch.finds c.args.receiver.now c.find_of.new.receiver (g.V.Verifier.accepts c.args.verifier.now) (g.S.Source.holds c.args.source.now)
     (with_name said (seen_search_words c.args.words.now)) c.args.terms.now (option_map reference_identity c.args.name) c.in_ok-operands.operands
-    c.in_ok-operands.ensures.reads named of c.find_of.result c.find_of.ensures
+    (with_this_name said (g.S.Source.holds c.args.source.now) (seen_search_words c.args.words.now) c.in_ok-operands.operands c.in_ok-operands.ensures.reads)
+    named of c.find_of.result c.find_of.ensures

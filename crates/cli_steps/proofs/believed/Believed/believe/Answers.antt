@@ -2,7 +2,7 @@ use Rattle.std.specs.Ordering.{nat_cmp}
 use Rattle.std.specs.Cmp.Lexicographic.{slice_cmp}
 use Rattle.std.specs.BTreeSet.{contains}
 use Rattle.path_verifiers.specs.ListVerifier.{is_listed}
-use Rattle.cli_steps.proofs.Believing.{one_more}
+use Rattle.cli_steps.proofs.Beliefs.{one_more}
 use Rattle.cli_steps.proofs.believed.Believed.believe.Goals as goal
 
 pub returns-clause-more : goal.returns-clause-more
