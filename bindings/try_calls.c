@@ -330,10 +330,11 @@ static void try_policies(void)
 }
 
 /* The verdict in a profile on a leaf below the root of points by a list, of who believes each signature. */
-static struct x509check_verdict verdict_in(uint32_t wide, struct x509check_text anchor, struct x509check_text certificate,
-                                           struct x509check_text list)
+static struct x509check_verdict verdict_for(uint32_t wide, struct x509check_text anchor, struct x509check_text certificate,
+                                            struct x509check_text list, struct x509check_text purpose)
 {
-    struct x509check_query query = {.anchor = anchor, .path = &certificate, .path_count = 1, .moment = MIDDLE_OF_2025, .wide = wide};
+    struct x509check_query query = {
+        .anchor = anchor, .path = &certificate, .path_count = 1, .moment = MIDDLE_OF_2025, .purpose = purpose, .wide = wide};
     struct x509check_signature_question questions[2];
     struct x509check_asked asked = x509check_questions(&query, &list, 1, questions, 2);
     uint8_t prints[2][X509CHECK_FINGERPRINT_LENGTH];
@@ -343,11 +344,20 @@ static struct x509check_verdict verdict_in(uint32_t wide, struct x509check_text 
     return x509check_validate(&query, &list, 1, prints[0], asked.count);
 }
 
+/* The same for any purpose. */
+static struct x509check_verdict verdict_in(uint32_t wide, struct x509check_text anchor, struct x509check_text certificate,
+                                           struct x509check_text list)
+{
+    return verdict_for(wide, anchor, certificate, list, (struct x509check_text){NULL, 0});
+}
+
 /* The list is published at the point of the leaf (RFC 5280, 5.2.5); the malformed leaf has no point in its cRLDistributionPoints. */
 static void try_profiles(void)
 {
     struct x509check_text anchor = text_of("points/root.der"), certificate = text_of("points/leaf.der");
     struct x509check_text malformed = text_of("points/malformed.der"), list = text_of("points/list.crl");
+    struct x509check_text server = {(const uint8_t *)"\x2B\x06\x01\x05\x05\x07\x03\x01", 8};
+    struct x509check_text stamping = {(const uint8_t *)"\x2B\x06\x01\x05\x05\x07\x03\x08", 8};
     struct x509check_verdict answer = verdict_in(0, anchor, certificate, list);
 
     EXPECT(answer.verdict == X509CHECK_REFUSED && is_refusal(answer.refusal, X509CHECK_STATEMENTS, 0, 48, 0, 74));
@@ -355,6 +365,20 @@ static void try_profiles(void)
     EXPECT(is_verdict(verdict_in(UINT32_MAX, anchor, certificate, text_of("points/revoking.crl")), X509CHECK_REVOKED, 1, 1));
     answer = verdict_in(1, anchor, malformed, list);
     EXPECT(answer.verdict == X509CHECK_REFUSED && is_refusal(answer.refusal, X509CHECK_CERTIFICATES, 1, 29, 0, 106));
+    /* The point of this one has reasons: a list there revokes, and says nothing else. */
+    certificate = text_of("points/limited.der");
+    EXPECT(is_verdict(verdict_in(1, anchor, certificate, list), X509CHECK_UNKNOWN, 1, 0));
+    EXPECT(is_verdict(verdict_in(1, anchor, certificate, text_of("points/revoking.crl")), X509CHECK_REVOKED, 1, 1));
+    /* Its points are critical, and its keyUsage is nonRepudiation. */
+    certificate = text_of("points/critical.der");
+    EXPECT(is_verdict(verdict_in(1, anchor, certificate, list), X509CHECK_VALID, 0, 0));
+    EXPECT(is_verdict(verdict_in(0, anchor, certificate, root_list), X509CHECK_INVALID, 1, 13));
+    EXPECT(is_verdict(verdict_for(1, anchor, certificate, list, server), X509CHECK_INVALID, 1, 14));
+    EXPECT(is_verdict(verdict_for(1, anchor, certificate, list, stamping), X509CHECK_VALID, 0, 0));
+    /* It has a critical certificatePolicies without policies. */
+    certificate = text_of("points/unprocessed.der");
+    EXPECT(is_verdict(verdict_in(1, anchor, certificate, list), X509CHECK_INVALID, 1, 13));
+    EXPECT(is_verdict(verdict_in(0, anchor, certificate, root_list), X509CHECK_UNKNOWN, 1, 0));
 }
 
 static void try_200_certificates(void)

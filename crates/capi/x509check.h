@@ -23,8 +23,8 @@ extern "C" {
 #endif
 
 /* The version of this header and of the library beside it: as text, and as 10000 * major + 100 * minor + patch. */
-#define X509CHECK_VERSION "1.1.0"
-#define X509CHECK_VERSION_NUMBER 10100
+#define X509CHECK_VERSION "1.2.0"
+#define X509CHECK_VERSION_NUMBER 10200
 
 /* The fault of a certificate whose text, or the value of an extension in it, is not DER. */
 #define X509CHECK_FAULT_DER 21
@@ -102,15 +102,15 @@ struct x509check_text {
  * In the stated profile a list whose issuingDistributionPoint names a point is refused, with the fault 48. In the wide one it is taken, and
  * speaks of certificates whose cRLDistributionPoints name that point (RFC 5280, 6.3.3); a certificate in which these are malformed is
  * refused, with the fault 29. In the wide one a response also counts if its hashes are by SHA-256 (RFC 6960, 4.1.1), and name constraints on
- * mail addresses and on hosts of URIs are processed (RFC 5280, 4.2.1.10); malformed ones are refused, with the faults 18 and 19. Questions
- * are to be asked in the profile of the verdict. */
+ * mail addresses and on hosts of URIs are processed (RFC 5280, 4.2.1.10); malformed ones are refused, with the faults 18 and 19. A list at
+ * another point of a certificate, with reasons or cRLIssuer, only revokes. Questions are to be asked in the profile of the verdict. */
 struct x509check_query {
     struct x509check_text anchor;      /* the DER of a certificate, of which only the name and the key are used */
     const struct x509check_text *path; /* the certificates below it, each in DER, to the one in question */
     size_t path_count;
     int64_t moment;                /* in seconds from 1970-01-01T00:00:00Z */
     struct x509check_text purpose; /* the contents of an OBJECT IDENTIFIER; no purpose is asked for if its length is 0 */
-    uint32_t wide;                 /* the profile in which path and statements are read: any number but 0 asks for the wide one */
+    uint32_t wide;                 /* the profile in which path and statements are read and judged: any number but 0 asks for the wide one */
 };
 
 /* What a search may spend. If one is 0, nothing is found. */

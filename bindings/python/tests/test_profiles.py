@@ -16,8 +16,8 @@ from .test_party import PROGRAM, InFolder
 
 # 2025-06-15T00:00:00Z
 MIDDLE = 1749945600
-ROOT, LEAF, MALFORMED, LIST, REVOKING = (
-    tried(os.path.join("points", name)) for name in ("root.der", "leaf.der", "malformed.der", "list.crl", "revoking.crl"))
+ROOT, LEAF, LIMITED, CRITICAL, UNPROCESSED, MALFORMED, LIST, REVOKING = (tried(os.path.join("points", name)) for name in (
+    "root.der", "leaf.der", "limited.der", "critical.der", "unprocessed.der", "malformed.der", "list.crl", "revoking.crl"))
 REVOKED = Result(Verdict.REVOKED, 1, RevocationReason.KEY_COMPROMISE)
 
 
@@ -46,6 +46,24 @@ class Profiles(unittest.TestCase):
         self.assertEqual(answer(statement=REVOKING, profile=Profile.WIDE), REVOKED)
         for words in {}, {"profile": Profile.STATED}:
             self.refused(Text.STATEMENTS, 0, 48, answer, **words)
+
+    def test_a_list_at_a_point_with_reasons_revokes_and_covers_nothing(self):
+        self.assertEqual(answer(LIMITED, REVOKING, profile=Profile.WIDE), REVOKED)
+        self.assertEqual(answer(LIMITED, LIST, profile=Profile.WIDE), Result(Verdict.UNKNOWN, 1))
+        self.assertEqual(found([LIMITED], profile=Profile.WIDE).verdict, Verdict.REVOKED)
+
+    def test_critical_points_are_processed_in_the_wide_profile(self):
+        self.assertEqual(answer(CRITICAL, profile=Profile.WIDE), Result(Verdict.VALID))
+        self.assertEqual(found([CRITICAL], profile=Profile.WIDE).verdict, Verdict.REVOKED)
+        self.assertEqual(validate(ROOT, [CRITICAL], [], MIDDLE, verify=good), Result(Verdict.INVALID, 1, Reason.CRITICAL_UNKNOWN))
+
+    def test_a_critical_extension_without_policies_is_refused_in_the_wide_profile(self):
+        self.assertEqual(answer(UNPROCESSED, profile=Profile.WIDE), Result(Verdict.INVALID, 1, Reason.CRITICAL_UNKNOWN))
+        self.assertEqual(validate(ROOT, [UNPROCESSED], [], MIDDLE, verify=good), Result(Verdict.UNKNOWN, 1))
+
+    def test_key_usage_goes_with_the_purpose(self):
+        for purpose, told in ("serverAuth", Result(Verdict.INVALID, 1, Reason.PURPOSE)), ("timeStamping", Result(Verdict.VALID)):
+            self.assertEqual(answer(CRITICAL, profile=Profile.WIDE, purpose=purpose), told)
 
     def test_points_are_read_in_the_wide_profile(self):
         self.refused(Text.CERTIFICATES, 1, 29, answer, MALFORMED, profile=Profile.WIDE)
@@ -100,7 +118,7 @@ class Profiles(unittest.TestCase):
         self.assertEqual(says(leaf), Result(Verdict.INVALID, 2, Reason.CONSTRAINT_FORM))
         self.assertEqual(says(leaf, profile=Profile.WIDE), Result(Verdict.UNKNOWN, 1))
         self.assertEqual(says(stranger, profile=Profile.WIDE), Result(Verdict.INVALID, 2, Reason.NOT_PERMITTED))
-        self.refused(Text.CERTIFICATES, 2, 18, says, malformed, profile=Profile.WIDE)
+        self.assertEqual(says(malformed, profile=Profile.WIDE), Result(Verdict.INVALID, 2, Reason.CONSTRAINT_FORM))
         result = validate_peer([leaf, other, authority], [root], [], MIDDLE, verify=good, profile=Profile.WIDE)
         self.assertEqual((result.verdict, result.certificate), (Verdict.UNKNOWN, 1))
         self.assertIn(hashlib.sha256(authority).hexdigest(), [one.sha256 for one in result.path])

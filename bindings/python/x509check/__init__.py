@@ -35,7 +35,7 @@ from ._report import report, report_on_two
 from ._verdicts import NotValid, Reason, Result, RevocationReason, Verdict, WhyNot, validate
 from .signatures import JudgeFailed, Judgement, JudgeMissing, Opinion, Policy, judge, judge_all, opinions
 
-__version__ = "1.1.0"
+__version__ = "1.2.0"
 
 __all__ = [
     "Alarm", "Answer", "BadReference", "Certificate", "Contradicted", "Contradiction", "Delivery", "Extensions", "Fault", "Forked", "Garbled", "Identity", "JudgeFailed", "JudgeMissing", "Judgement", "Kind", "LibraryMissing", "Limits",

@@ -412,7 +412,7 @@ def validate(
 
     In the profile WIDE a list that is published at a point speaks of the certificates whose cRLDistributionPoints name that point; in STATED
     it cannot be read. In WIDE alone responses by SHA-256 count, and name constraints on mail addresses and on hosts of URIs are processed.
-    It refuses certificates of the chain in which points, mail addresses or these constraints are malformed.
+    It refuses certificates of the chain in which points or these constraints are malformed.
 
     Raises a Fault if a certificate or a statement cannot be read, Unjudged and Contradiction, ValueError for a moment, a purpose, a target or
     a fingerprint that is none, and TypeError for arguments and answers of a judge that are of another kind.

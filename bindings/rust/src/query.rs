@@ -29,7 +29,7 @@ pub enum Profile {
     Stated,
     /// Such a list is taken too, and speaks of the certificates whose cRLDistributionPoints name its point. A certificate in which these are
     /// malformed cannot be read, unless it is an anchor. Responses count by SHA-256 too. Name constraints on mail addresses and on hosts of
-    /// URIs are processed, and malformed ones cannot be read (RFC 5280, 4.2.1.10).
+    /// URIs are processed, and malformed ones cannot be read (RFC 5280, 4.2.1.10). A list at a point with reasons or cRLIssuer only revokes.
     Wide,
 }
 

@@ -62,6 +62,31 @@ fn a_list_at_a_point_counts_in_the_wide_profile() {
     }
 }
 
+/// limited.der is leaf.der, and its point has reasons.
+#[test]
+fn a_list_at_a_point_with_reasons_revokes_and_covers_nothing() {
+    for (list, verdict) in [
+        ("list.crl", Verdict::Unknown { certificate: 1 }),
+        ("revoking.crl", REVOKED),
+    ] {
+        let told = answer(Profile::Wide, "limited.der", list).unwrap();
+        assert_eq!(told.verdict, verdict);
+    }
+}
+
+/// critical.der is leaf.der with critical points; unprocessed.der also has a critical certificatePolicies without policies.
+#[test]
+fn critical_extensions_are_processed_in_the_wide_profile() {
+    let invalid = Verdict::Invalid {
+        certificate: 1,
+        reason: Reason::CriticalUnknown,
+    };
+    for (leaf, verdict) in [("critical.der", Verdict::Valid), ("unprocessed.der", invalid)] {
+        let told = answer(Profile::Wide, leaf, "list.crl").unwrap();
+        assert_eq!(told.verdict, verdict);
+    }
+}
+
 #[test]
 fn points_are_read_in_the_wide_profile() {
     let refusal = answer(Profile::Wide, "malformed.der", "list.crl").unwrap_err();
@@ -99,8 +124,8 @@ fn constraints_on_mail_addresses_are_processed_in_the_wide_profile() {
     assert_eq!(told.verdict, Verdict::Unknown { certificate: 1 });
     let told = answer(Profile::Wide, "stranger.der").unwrap();
     assert_eq!(told.verdict, invalid(Reason::NotPermitted));
-    let refusal = answer(Profile::Wide, "malformed.der").unwrap_err();
-    assert_eq!(refused(refusal), (Some((Text::Certificates, 2)), 18));
+    let told = answer(Profile::Wide, "malformed.der").unwrap();
+    assert_eq!(told.verdict, invalid(Reason::ConstraintForm));
 }
 
 #[test]

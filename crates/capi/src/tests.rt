@@ -159,7 +159,7 @@ fn digests(rt: HostRuntime) {
 
 #[test]
 fn versions(rt: HostRuntime) {
-    assert!(rt; x509check_version() == 10100);
+    assert!(rt; x509check_version() == 10200);
 }
 
 #[test]

@@ -24,7 +24,7 @@ use Rattle.capi_values.specs.Among.{AreSearchJudged, AreWrittenAmong, TellsFindi
 use Rattle.capi_values.specs.Finding.{IsFindingFor, IsFindingOn, TellsSearchAnswer, without_path}
 use Rattle.capi_values.specs.Questions.{AreTold, asked_answer, question_of}
 use Rattle.capi_values.specs.Searching.{IsSearchRead, IsSearchReadWith, search_certificates, search_texts}
-use Rattle.capi_values.specs.Texts.{AreAllOctets, AreCertificates, CertificateTexts, numbered, octets_of_texts, profile_of}
+use Rattle.capi_values.specs.Texts.{AreAllOctets, AreCertificates, CertificateTexts, numbered, octets_of_texts, options_in, profile_of}
 use Rattle.capi_values.specs.Verdict.{refusal_answer}
 use Rattle.capi_values.specs.WhyNot.{IsWhyNotFor, IsWhyNotOn, Rooms, TellsWhyNotAnswer, TellsWhyNotOf, without_end}
 use Rattle.capi_values.specs.declared.diagnosis.WhyNotAnswer.{WhyNotAnswer}
@@ -161,12 +161,15 @@ module _ (accepts : Accepts) (search : SearchOfTexts) (statements : List Text) (
       let count : length written.read.anchors ≡ length read.anchors =
       written.is_read.search_is.certificates_are.anchors ∙ same_anchors ∙ sym is.certificates_are.anchors in
       let parts = parted written.read.anchors read.anchors written.read.target read.target written.read.bag read.bag certificates count in
+      let options : written.read.options ≡ read.options =
+      written.is_read.search_is.options ∙ ap (λ (texts : CertificateTexts). options_in texts.profile) are.same_certificates ∙ sym is.options in
       let same : search_at read.moment read.purpose written.read ≡ read = λ k. record {
         anchors = parts.0 k;
         bag = parts.2 k;
         target = parts.1 k;
         moment = read.moment;
         purpose = read.purpose;
+        options = options k;
       } in
       subst (λ (s : Search). AreFindingQuestions s written.these written.asked) same (written.may_be_asked read.moment read.purpose)
 

@@ -11,8 +11,8 @@ use Rattle.statements.specs.Statement.{Statement, statement_under}
 use Rattle.statements_facts.specs.declared.profile.Profile.{Profile}
 use Rattle.statements_facts.specs.declared.profile.Profile.TheVariants.{Stated, Wide}
 use Rattle.path.specs.Query.{Query}
-use Rattle.path_profiles.specs.InProfile.{certificate_under}
-use Rattle.path_profiles.proofs.Laws.{stated_too}
+use Rattle.path.specs.InProfile.{certificate_in}
+use Rattle.path.proofs.Laws.{stated_too}
 use Rattle.relying_questions.specs.Places.{AllInTexts, AreInTexts, Stands, WasReadInSomeProfile}
 use Rattle.relying_questions.specs.Places.{WereRead, WereStatementsRead, certificate_octets, texts_at, texts_in}
 use Rattle.relying_questions.specs.Questions.{questions_of}
@@ -110,7 +110,7 @@ is_of_text text read it fits reads same =
       ap (λ (c : Certificate). c.octets) same ∙ ap (λ (c : Certificate). c.octets) is,
     )
 
-read_from : (profile : Profile) (text : List ℕ) (it : Certificate) → AreOctets text → certificate_under profile text ≡ Ok it → IsOfText text it
+read_from : (profile : Profile) (text : List ℕ) (it : Certificate) → AreOctets text → certificate_in profile text ≡ Ok it → IsOfText text it
 read_from Stated text it fits reads = is_of_text text it it fits reads refl
 read_from Wide text it fits reads =
     let stated = stated_too text it reads in
@@ -132,7 +132,7 @@ read_in_order profile [] [] fits each = (tt, refl)
 read_in_order profile [] (it ∷ these) fits each = absurd (omega (arith, ap length each))
 read_in_order profile (text ∷ texts) [] fits each = absurd (omega (arith, ap length each))
 read_in_order profile (text ∷ texts) (it ∷ these) fits each =
-    let read : certificate_under profile text ≡ Ok it = cc in
+    let read : certificate_in profile text ≡ Ok it = cc in
     let others : readings_under profile texts ≡ all_read these = cc in
     one_more text it texts these (read_from profile text it fits.0 read) (read_in_order profile texts these fits.1 others)
 
@@ -142,7 +142,7 @@ pub were_read : (profile : Profile) (anchors others : List (List ℕ)) (these : 
 were_read profile [] others these fits each = read_in_order profile others these fits each
 were_read profile (text ∷ anchors) others [] fits each = absurd (omega (arith, ap length each))
 were_read profile (text ∷ anchors) others (it ∷ these) fits each =
-    let read : certificate_under Stated text ≡ Ok it = cc in
+    let read : certificate_in Stated text ≡ Ok it = cc in
     let rest : readings_under Stated anchors ++ readings_under profile others ≡ all_read these = cc in
     one_more text it (anchors ++ others) these (read_from Stated text it fits.0 read) (were_read profile anchors others these fits.1 rest)
 

@@ -6,8 +6,8 @@ use Rattle.std.proofs.lemmas.List.{get_or-reverse, length-append, length-map, le
 use Rattle.cert.specs.declared.fault.CertFault.{CertFault}
 use Rattle.cert.specs.declared.fault.CertFault.TheVariants as cert
 use Rattle.cert.specs.declared.certificate.Certificate as of_cert
-use Rattle.path_profiles.specs.InProfile.{certificate_under}
-use Rattle.path_profiles.specs.Reading.{IsFirstRefusedUnder, IsPathRefused}
+use Rattle.path.specs.InProfile.{certificate_in}
+use Rattle.path.specs.ProfileReading.{IsFirstRefusedIn, IsPathRefused}
 use Rattle.statements_facts.specs.declared.profile.Profile.{Profile}
 use Rattle.statements_facts.specs.declared.profile.Profile.TheVariants.{Stated}
 use Rattle.capi_values.specs.Refusal.{IsFirstRefused, TellsCertFault, TellsRefusedOf, certificate_refused}
@@ -25,7 +25,7 @@ use Rattle.relying_texts.specs.Reading.{AreStatementsReadUnder}
 use Rattle.capi_values.specs.Finding.{HasNumbers, HavePlaces}
 use Rattle.capi_values.specs.Searching.{IsSearchRead, IsSearchReadWith, search_certificates}
 use Rattle.capi_values.specs.Texts.{AreAllOctets, AreCertificates, Reading, all_read, all_seen}
-use Rattle.capi_values.specs.Texts.{octets_of_texts, profile_of, purpose_if_any, query_certificates, readings, readings_under}
+use Rattle.capi_values.specs.Texts.{octets_of_texts, options_of, profile_of, purpose_if_any, query_certificates, readings, readings_under}
 use Rattle.capi_values.specs.declared.texts.Text.{Text}
 use Rattle.capi_values.specs.declared.refusal.Refusal.{Refusal}
 use Rattle.capi_values.specs.declared.searching.SearchOfTexts.{SearchOfTexts}
@@ -60,14 +60,14 @@ of_path : (profile : Profile) (texts : List (List ℕ)) (i : ℕ) (fault : CertF
 of_path profile [] i fault is = absurd (omega (arith, is.within))
 of_path profile (text ∷ texts) zero fault is = record {
   before = [];
-  refused = certificate_under profile text;
+  refused = certificate_in profile text;
   behind = readings_under profile texts;
   all_are = refl;
   number_is = refl;
   fault_is = is.refused;
 }
 of_path profile (text ∷ texts) (suc i) fault is =
-    behind_one (certificate_under profile text) (readings_under profile texts) i fault (is.before 0 (omega arith))
+    behind_one (certificate_in profile text) (readings_under profile texts) i fault (is.before 0 (omega arith))
     (of_path profile texts i fault record {
       within = omega (arith, is.within);
       refused = is.refused;
@@ -76,12 +76,12 @@ of_path profile (text ∷ texts) (suc i) fault is =
 
 -- a certificate that a query refuses
 pub query_refused : (query : QueryOfTexts) (j : ℕ) (fault : CertFault)
-    → IsFirstRefusedUnder (profile_of query.wide) query.anchor.octets.now (octets_of_texts query.path.now) j fault
+    → IsFirstRefusedIn (profile_of query.wide) query.anchor.octets.now (octets_of_texts query.path.now) j fault
     → IsFirstRefused (readings (query_certificates query)) j fault
 query_refused query j fault (inl (none, fails)) =
     subst (λ (n : ℕ). IsFirstRefused (readings (query_certificates query)) n fault) (sym none) record {
       before = [];
-      refused = certificate_under Stated query.anchor.octets.now;
+      refused = certificate_in Stated query.anchor.octets.now;
       behind = readings_under (profile_of query.wide) (octets_of_texts query.path.now);
       all_are = refl;
       number_is = refl;
@@ -92,7 +92,7 @@ query_refused query j fault (inr (i, number, ok, is)) =
     let profile = profile_of query.wide in
     let path = octets_of_texts query.path.now in
     subst (λ (n : ℕ). IsFirstRefused (readings (query_certificates query)) n fault) (sym later)
-    (behind_one (certificate_under Stated query.anchor.octets.now) (readings_under profile path) i fault ok (of_path profile path i fault is))
+    (behind_one (certificate_in Stated query.anchor.octets.now) (readings_under profile path) i fault ok (of_path profile path i fault is))
 
 -- what stands behind does not matter
 pub with_more : (all more whole : List Reading) (told : Refusal) → all ++ more ≡ whole → TellsRefusedOf all told → TellsRefusedOf whole told
@@ -121,7 +121,7 @@ seen_more (first ∷ old) one = ap (λ (more : List Reading). Ok (seen_certifica
 
 pub one_read : (profile : Profile) (old new : List of_cert.Certificate) (one : of_cert.Certificate) (texts : List Text) (whole : List Reading) (i : ℕ)
     (d : Text) → i < length texts
-    → certificate_under profile (get_or texts i d).octets.now ≡ Ok (seen_certificate one) → new ≡ old ++ one ∷ []
+    → certificate_in profile (get_or texts i d).octets.now ≡ Ok (seen_certificate one) → new ≡ old ++ one ∷ []
     → all_seen old ++ readings_under profile (octets_of_texts (drop i texts)) ≡ whole
     → all_seen new ++ readings_under profile (octets_of_texts (drop (i + 1) texts)) ≡ whole
 one_read profile old new one texts whole i d below reads grown so_far =
@@ -135,11 +135,11 @@ one_read profile old new one texts whole i d below reads grown so_far =
 
 pub one_refused : (profile : Profile) (old : List of_cert.Certificate) (texts : List Text) (whole : List Reading) (i : ℕ) (d : Text) (fault : CertFault)
     → i < length texts
-    → FailsUnlessFull fault (certificate_under profile (get_or texts i d).octets.now)
+    → FailsUnlessFull fault (certificate_in profile (get_or texts i d).octets.now)
     → all_seen old ++ readings_under profile (octets_of_texts (drop i texts)) ≡ whole → IsFirstRefused whole (length old) fault
 one_refused profile old texts whole i d fault below fails so_far = record {
   before = map seen_certificate old;
-  refused = certificate_under profile (get_or texts i d).octets.now;
+  refused = certificate_in profile (get_or texts i d).octets.now;
   behind = readings_under profile (octets_of_texts (drop (i + 1) texts));
   all_are = sym so_far ∙ ap (λ rest. all_seen old ++ readings_under profile (octets_of_texts rest)) (next_left texts i d below);
   number_is = sym (length-map old seen_certificate);
@@ -199,18 +199,20 @@ count_certificates s certificates are = omega (arith, ap length are, length-appe
 
 pub search_is : (search : SearchOfTexts) (read : Search) (certificates : List Certificate) → AreCertificates (search_certificates search) certificates
     → certificates_of read ≡ certificates
-    → length read.anchors ≡ length search.anchors.now → read.moment ≡ search.moment → read.purpose ≡ purpose_if_any search.purpose.octets.now → IsSearchRead search read
-search_is search read certificates are same anchors moment purpose = record {
+    → length read.anchors ≡ length search.anchors.now → read.moment ≡ search.moment → read.purpose ≡ purpose_if_any search.purpose.octets.now
+    → read.options ≡ options_of search.wide → IsSearchRead search read
+search_is search read certificates are same anchors moment purpose options = record {
   certificates_are = record { certificates = subst (AreCertificates (search_certificates search)) (sym same) are; anchors = anchors };
   moment = moment;
   purpose = purpose;
+  options = options;
 }
 
 pub search_read : (search : SearchOfTexts) (statements : List Text) (read : Search) (certificates : List Certificate) (these : List Statement)
     → AreCertificates (search_certificates search) certificates → certificates_of read ≡ certificates
     → length read.anchors ≡ length search.anchors.now → read.moment ≡ search.moment → read.purpose ≡ purpose_if_any search.purpose.octets.now
-    → AreStatementsReadUnder (profile_of search.wide) (octets_of_texts statements) these → IsSearchReadWith search statements read these
-search_read search statements read certificates these are same anchors moment purpose said = record {
-  search_is = search_is search read certificates are same anchors moment purpose;
+    → read.options ≡ options_of search.wide → AreStatementsReadUnder (profile_of search.wide) (octets_of_texts statements) these → IsSearchReadWith search statements read these
+search_read search statements read certificates these are same anchors moment purpose options said = record {
+  search_is = search_is search read certificates are same anchors moment purpose options;
   statements_are = said;
 }

@@ -25,7 +25,7 @@ use Rattle.capi_values.specs.Parts.{IsPart}
 use Rattle.capi_values.specs.Questions.{AreTold, AreWritten, IsPlace, IsText, TellEach, TellsQuestion, WritesQuestions, asked_answer}
 use Rattle.capi_values.specs.Refusal.{TellsRefusal, no_memory}
 use Rattle.capi_values.specs.Texts.{AreCertificates, CertificateTexts, IsAt, IsRead}
-use Rattle.capi_values.specs.Texts.{certificate_texts, numbered, octets_of_texts, profile_of, query_certificates}
+use Rattle.capi_values.specs.Texts.{certificate_texts, numbered, octets_of_texts, options_in, profile_of, query_certificates}
 use Rattle.capi_values.specs.Verdict.{IsVerdictFor, IsVerdictOn, TellsAnswer, refusal_answer}
 use Rattle.capi_values.specs.declared.answer.VerdictAnswer.{VerdictAnswer}
 use Rattle.capi_values.specs.declared.questions.Asked.{Asked}
@@ -145,14 +145,19 @@ all_answered accepts certificates statements prints asked room questions count t
 
 -- ---- one query and its statements
 
-same_questions : (one other : Query) (these those : List Statement) → one.anchor ∷ one.certificates ≡ other.anchor ∷ other.certificates → these ≡ those
-    → questions_of (record { anchor = one.anchor; certificates = one.certificates; moment = other.moment; purpose = other.purpose }) these ≡ questions_of other those
-same_questions one other these those certificates same =
+same_questions : (one other : Query) (these those : List Statement) → one.anchor ∷ one.certificates ≡ other.anchor ∷ other.certificates
+    → one.options ≡ other.options → these ≡ those → questions_of (record one { moment = other.moment; purpose = other.purpose }) these ≡ questions_of other those
+same_questions one other these those certificates options same =
     let anchor : one.anchor ≡ other.anchor = cc in
     let path : one.certificates ≡ other.certificates = cc in
-    ap (λ it. questions_of (record { anchor = it; certificates = one.certificates; moment = other.moment; purpose = other.purpose }) these) anchor
-    ∙ ap (λ it. questions_of (record { anchor = other.anchor; certificates = it; moment = other.moment; purpose = other.purpose }) these) path
-    ∙ ap (questions_of other) same
+    let whole : record one { moment = other.moment; purpose = other.purpose } ≡ other = λ k. record {
+      anchor = anchor k;
+      certificates = path k;
+      moment = other.moment;
+      purpose = other.purpose;
+      options = options k;
+    } in
+    ap (λ it. questions_of it these) whole ∙ ap (questions_of other) same
 
 module _ (accepts : Accepts) (query : QueryOfTexts) (statements : List Text) (prints : List (List ℕ)) (are : AreJudged accepts query statements prints) where
   pub written : AreWritten are.about statements are.room are.questions are.asked.count
@@ -168,6 +173,10 @@ module _ (accepts : Accepts) (query : QueryOfTexts) (statements : List Text) (pr
       subst (λ (texts : CertificateTexts). AreStatementsReadUnder texts.profile (octets_of_texts statements) written.these) are.same_certificates
       written.is_read.statements_are
 
+  options_are : (read : Query) (these : List Statement) → IsRead query statements read these → written.read.options ≡ read.options
+  options_are read these is =
+      written.is_read.query_is.options_is ∙ ap (λ (texts : CertificateTexts). options_in texts.profile) are.same_certificates ∙ sym is.query_is.options_is
+
   pub good : (one : Judgement) → Contains written.asked one → Answers (answer accepts one) (judgement_print one) prints
   good =
       all_answered accepts (certificate_texts query) (octets_of_texts statements) prints written.asked are.room are.questions are.asked.count
@@ -179,6 +188,7 @@ module _ (accepts : Accepts) (query : QueryOfTexts) (statements : List Text) (pr
       written.may_be_asked read.moment read.purpose
       ∙ same_questions written.read read written.these these
       (read_once (written.read.anchor ∷ written.read.certificates) (read.anchor ∷ read.certificates) (sym certificates_are ∙ query_read query read is.query_is))
+      (options_are read these is)
       (one_reading (statement_under (profile_of query.wide)) (octets_of_texts statements) written.these these statements_are is.statements_are)
 
   -- what was asked about was read, so only memory can be refused

@@ -7,9 +7,11 @@ use Rattle.cert.specs.Certificate.{Certificate, certificate}
 use Rattle.cert.specs.declared.fault.CertRule.{CertRule}
 use Rattle.cert.specs.declared.fault.CertFault.{CertFault}
 use Rattle.path.specs.Query.{Query}
-use Rattle.path_profiles.specs.Reading.{AreReadUnder, IsFirstRefusedUnder, IsQueryReadUnder}
+use Rattle.path.specs.ProfileReading.{AreReadIn, IsFirstRefusedIn}
+use Rattle.path.specs.ProfileReading as reading
+use Rattle.path.specs.declared.options.Options.{Options}
 use Rattle.statements_facts.specs.declared.profile.Profile.{Profile}
-use Rattle.capi_values.specs.Texts.{AreCertificates, IsQueryRead, Reading, all_read, octets_of_texts, profile_of, purpose_if_any, query_certificates}
+use Rattle.capi_values.specs.Texts.{AreCertificates, IsQueryRead, Reading, all_read, octets_of_texts, options_of, profile_of, purpose_if_any, query_certificates}
 use Rattle.capi_values.specs.declared.texts.QueryOfTexts.{QueryOfTexts}
 
 -- texts that were read have one reading
@@ -39,27 +41,28 @@ none_refused read (text ∷ texts) (y ∷ these) d (suc i) fault p below is =
 -- ---- certificates
 
 -- what was read of values that are those of a query
-pub asked : (query : QueryOfTexts) (profile : Profile) (anchor : List ℕ) (texts : List (List ℕ)) (moment : ℤ) (purpose : Option (List ℕ)) (read : Query)
-    → profile ≡ profile_of query.wide → anchor ≡ query.anchor.octets.now → texts ≡ octets_of_texts query.path.now → moment ≡ query.moment
-    → purpose ≡ purpose_if_any query.purpose.octets.now → IsQueryReadUnder profile anchor texts moment purpose read → IsQueryRead query read
-asked query profile anchor texts moment purpose read profile_is anchor_is texts_are moment_is purpose_is is = record {
+pub asked : (query : QueryOfTexts) (options : Options) (anchor : List ℕ) (texts : List (List ℕ)) (moment : ℤ) (purpose : Option (List ℕ)) (read : Query)
+    → options ≡ options_of query.wide → anchor ≡ query.anchor.octets.now → texts ≡ octets_of_texts query.path.now → moment ≡ query.moment
+    → purpose ≡ purpose_if_any query.purpose.octets.now → reading.IsQueryRead options anchor texts moment purpose read → IsQueryRead query read
+asked query options anchor texts moment purpose read options_are anchor_is texts_are moment_is purpose_is is = record {
   anchor_is = subst (λ octets. certificate octets ≡ Ok read.anchor) anchor_is is.anchor_is;
   path_is =
-      subst (λ (it : Profile). AreReadUnder it (octets_of_texts query.path.now) read.certificates) profile_is
-      (subst (λ them. AreReadUnder profile them read.certificates) texts_are is.path_is);
+      subst (λ (it : Options). AreReadIn it.profile (octets_of_texts query.path.now) read.certificates) options_are
+      (subst (λ them. AreReadIn options.profile them read.certificates) texts_are is.path_is);
   moment_is = is.moment_is ∙ moment_is;
   purpose_is = is.purpose_is ∙ purpose_is;
+  options_is = is.options_is ∙ options_are;
 }
 
 -- and what is refused
 pub refused_of : (query : QueryOfTexts) (profile : Profile) (anchor : List ℕ) (texts : List (List ℕ)) (j : ℕ) (fault : CertFault)
     → profile ≡ profile_of query.wide
-    → anchor ≡ query.anchor.octets.now → texts ≡ octets_of_texts query.path.now → IsFirstRefusedUnder profile anchor texts j fault
-    → IsFirstRefusedUnder (profile_of query.wide) query.anchor.octets.now (octets_of_texts query.path.now) j fault
+    → anchor ≡ query.anchor.octets.now → texts ≡ octets_of_texts query.path.now → IsFirstRefusedIn profile anchor texts j fault
+    → IsFirstRefusedIn (profile_of query.wide) query.anchor.octets.now (octets_of_texts query.path.now) j fault
 refused_of query profile anchor texts j fault profile_is anchor_is texts_are is =
-    subst (λ (it : Profile). IsFirstRefusedUnder it query.anchor.octets.now (octets_of_texts query.path.now) j fault) profile_is
-    (subst (λ (it : List ℕ). IsFirstRefusedUnder profile it (octets_of_texts query.path.now) j fault) anchor_is
-    (subst (λ them. IsFirstRefusedUnder profile anchor them j fault) texts_are is))
+    subst (λ (it : Profile). IsFirstRefusedIn it query.anchor.octets.now (octets_of_texts query.path.now) j fault) profile_is
+    (subst (λ (it : List ℕ). IsFirstRefusedIn profile it (octets_of_texts query.path.now) j fault) anchor_is
+    (subst (λ them. IsFirstRefusedIn profile anchor them j fault) texts_are is))
 
 pub query_read : (query : QueryOfTexts) (read : Query) → IsQueryRead query read → AreCertificates (query_certificates query) (read.anchor ∷ read.certificates)
 query_read query read is = λ k. is.anchor_is k ∷ is.path_is k

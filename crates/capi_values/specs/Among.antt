@@ -22,13 +22,7 @@ use Rattle.capi_values.specs.declared.texts.Text.{Text}
 
 -- the same certificates, at another moment and for another purpose
 abbrev pub search_at : ℤ → Option (List ℕ) → Search → Search
-search_at moment purpose read = record {
-  anchors = read.anchors;
-  bag = read.bag;
-  target = read.target;
-  moment = moment;
-  purpose = purpose;
-}
+search_at moment purpose read = record read { moment = moment; purpose = purpose }
 
 -- what may be asked for what is found, at whatever moment and for whatever purpose
 abbrev pub AreQuestionsAmong : Search → List Statement → List Judgement → Type 0

@@ -52,7 +52,7 @@ TellEach certificates statements (question ∷ questions) (one ∷ asked) =
 abbrev pub AreQuestionsAbout : of_path.Query → List Statement → List Judgement → Type 0
 AreQuestionsAbout read these asked =
     (moment : ℤ) (purpose : Option (List ℕ)) →
-    asked ≡ questions_of (record { anchor = read.anchor; certificates = read.certificates; moment = moment; purpose = purpose }) these
+    asked ≡ questions_of (record read { moment = moment; purpose = purpose }) these
 
 -- Of the questions as many are written as there is room for, and there are so many.
 pub record AreTold (certificates statements : List (List ℕ)) (asked : List Judgement) (old new : List SignatureQuestion) (count : ℕ) : Type 0 where

@@ -5,7 +5,7 @@ use Rattle.statements.specs.Statement.{Statement}
 use Rattle.relying_search.specs.declared.finding.FindingBudget.{FindingBudget}
 use Rattle.relying_texts.specs.Reading.{AreStatementsReadUnder}
 use Rattle.relying_questions.specs.Places.{certificates_of}
-use Rattle.capi_values.specs.Texts.{AreCertificates, CertificateTexts, numbered, octets_of_texts, profile_of, purpose_if_any}
+use Rattle.capi_values.specs.Texts.{AreCertificates, CertificateTexts, numbered, octets_of_texts, options_of, profile_of, purpose_if_any}
 use Rattle.capi_values.specs.declared.searching.Limits.{Limits}
 use Rattle.capi_values.specs.declared.searching.SearchOfTexts.{SearchOfTexts}
 use Rattle.capi_values.specs.declared.texts.Text.{Text}
@@ -26,11 +26,12 @@ pub record AreSearchCertificates (search : SearchOfTexts) (read : Search) : Type
   pub certificates : AreCertificates (search_certificates search) (certificates_of read)
   pub anchors : length read.anchors ≡ length search.anchors.now
 
--- what was read is the search, in the profile that it asks for
+-- what was read is the search, with the options that it asks for
 pub record IsSearchRead (search : SearchOfTexts) (read : Search) : Type 0 where
   pub certificates_are : AreSearchCertificates search read
   pub moment : read.moment ≡ search.moment
   pub purpose : read.purpose ≡ purpose_if_any search.purpose.octets.now
+  pub options : read.options ≡ options_of search.wide
 
 -- what was read is the search, and these are the statements
 pub record IsSearchReadWith (search : SearchOfTexts) (statements : List Text) (read : Search) (these : List Statement) : Type 0 where

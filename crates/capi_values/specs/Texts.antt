@@ -6,8 +6,9 @@ use Rattle.cert.specs.Certificate.{Certificate, seen_certificate}
 use Rattle.cert.specs.declared.certificate.Certificate as of_cert
 use Rattle.cert.specs.declared.fault.CertRule.{CertRule}
 use Rattle.path.specs.Query.{Query}
-use Rattle.path_profiles.specs.InProfile.{certificate_under}
-use Rattle.path_profiles.specs.Reading.{IsQueryReadUnder}
+use Rattle.path.specs.InProfile.{certificate_in}
+use Rattle.path.specs.ProfileReading as reading
+use Rattle.path.specs.declared.options.Options.{Options}
 use Rattle.statements.specs.Statement.{Statement}
 use Rattle.statements_facts.specs.declared.profile.Profile.{Profile}
 use Rattle.statements_facts.specs.declared.profile.Profile.TheVariants.{Stated, Wide}
@@ -25,6 +26,13 @@ AreAllOctets texts = AllByRecursion AreOctets texts
 -- any number but 0 asks for the wide profile
 abbrev pub profile_of : ℕ → Profile
 profile_of wide = if wide == 0 then Stated else Wide
+
+-- what is asked for besides
+abbrev pub options_in : Profile → Options
+options_in profile = record { profile = profile }
+
+abbrev pub options_of : ℕ → Options
+options_of wide = options_in (profile_of wide)
 
 -- The certificates of a query or of a search, and the profile in which they are read. Anchors are read alike in both: of them only the
 -- name and the key are used, and no list speaks of them, so they have no points.
@@ -59,7 +67,7 @@ Reading = Result Certificate (CertRule × ℕ)
 
 -- what texts are read as in a profile
 abbrev pub readings_under : Profile → List (List ℕ) → List Reading
-readings_under profile texts = map (certificate_under profile) texts
+readings_under profile texts = map (certificate_in profile) texts
 
 -- what certificates are read as, by their numbers
 abbrev pub readings : CertificateTexts → List Reading
@@ -80,10 +88,10 @@ AddReadings old new added = all_seen new ≡ all_seen old ++ added
 abbrev pub AreCertificates : CertificateTexts → List Certificate → Type 0
 AreCertificates texts these = readings texts ≡ all_read these
 
--- what was read is the query, in the profile that it asks for
+-- what was read is the query, with the options that it asks for
 abbrev pub IsQueryRead : code.QueryOfTexts → Query → Type 0
 IsQueryRead query read =
-    IsQueryReadUnder (profile_of query.wide) query.anchor.octets.now (octets_of_texts query.path.now) query.moment
+    reading.IsQueryRead (options_of query.wide) query.anchor.octets.now (octets_of_texts query.path.now) query.moment
     (purpose_if_any query.purpose.octets.now) read
 
 -- what was read is the query, and these are the statements

@@ -8,14 +8,13 @@ ghost use Rattle.relying_questions.specs.Places.{certificates_of};
 ghost use Rattle.relying_texts.specs.Reading.{AreStatementsReadUnder};
 ghost use Rattle.capi_values.specs.Refusal.{TellsBadCertificate, TellsRefusal, TellsRefusedOf};
 ghost use Rattle.capi_values.specs.Searching.{budget_of, search_certificates, search_texts};
-ghost use Rattle.capi_values.specs.Texts.{AddReadings, AreAllOctets, AreCertificates, all_seen, octets_of_texts, profile_of, purpose_if_any, readings, readings_under};
+ghost use Rattle.capi_values.specs.Texts.{AddReadings, AreAllOctets, AreCertificates, all_seen, octets_of_texts, options_of, profile_of, purpose_if_any, readings, readings_under};
 
 use crate::case::read_each;
 use crate::refusal::Refusal;
-use crate::texts::{Text, profile_of, purpose_of};
+use crate::texts::{Text, options_of, profile_of, purpose_of};
 use cert::Certificate;
-use path::QueryFault;
-use path_profiles::read_certificate_under;
+use path::{QueryFault, read_certificate};
 use path_search::{Budget, Search};
 use relying_search::FindingBudget;
 use statements::Statement;
@@ -85,7 +84,7 @@ fn add_certificates<'a>(
         ++ readings_under profile (octets_of_texts texts.now))) }
 {
     for text in texts {
-        let certificate = match read_certificate_under(alloc, profile, text.octets()) {
+        let certificate = match read_certificate(alloc, profile, text.octets()) {
             Ok(certificate) => certificate,
             Err(fault) => {
                 return Err(Refusal::of_certificate(QueryFault {
@@ -140,6 +139,7 @@ impl<'a> SearchOfTexts<'a> {
         ensures moment { (seen_search result).moment ≡ self.now.moment }
         ensures purpose { (seen_search result).purpose
             ≡ purpose_if_any self.now.purpose.octets.now }
+        ensures options { (seen_search result).options ≡ options_of self.now.wide }
     {
         let (anchors, others) = certificates.split_at(self.anchors.len());
         Search {
@@ -148,6 +148,7 @@ impl<'a> SearchOfTexts<'a> {
             bag: &others[1..],
             moment: self.moment,
             purpose: purpose_of(self.purpose.octets),
+            options: options_of(self.wide),
         }
     }
 }

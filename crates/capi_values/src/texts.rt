@@ -5,10 +5,10 @@ ghost use Rattle.std.specs.Option.{option_copied};
 ghost use Rattle.path.specs.Reading.{seen_query, texts_of};
 ghost use Rattle.capi_values.specs.Refusal.{TellsBadCertificate};
 ghost use Rattle.asn.specs.DerLaws.{AreOctets};
-ghost use Rattle.capi_values.specs.Texts.{AreAllOctets, IsQueryRead, certificate_texts, octets_of_texts, profile_of, purpose_if_any, query_certificates};
+ghost use Rattle.capi_values.specs.Texts.{AreAllOctets, IsQueryRead, certificate_texts, octets_of_texts, options_of, profile_of, purpose_if_any, query_certificates};
 
 use crate::refusal::Refusal;
-use path_profiles::read_query_under;
+use path::{Options, Query};
 use statements_facts::Profile;
 use std::alloc::{AllocError, Global};
 
@@ -91,24 +91,33 @@ pub(crate) fn profile_of(wide: u32) -> Profile
     }
 }
 
+/// What the number asks for besides.
+pub(crate) fn options_of(wide: u32) -> Options
+    ensures { result ≡ options_of wide }
+{
+    Options {
+        profile: profile_of(wide),
+    }
+}
+
 impl<'a> QueryOfTexts<'a> {
-    /// Reads the certificates, the anchor first, in the profile that is asked for.
-    pub(crate) fn read(&self, alloc: Global) -> Result<path::Query<'a>, Refusal>
+    /// Reads the certificates, the anchor first, with the options that are asked for.
+    pub(crate) fn read(&self, alloc: Global) -> Result<Query<'a>, Refusal>
         ensures reads { IfOk result (λ query. IsQueryRead self.now (seen_query query)) }
         ensures fit { IfOk result (λ _. AreAllOctets (certificate_texts self.now)) }
         ensures refuses { IfErr result (TellsBadCertificate (query_certificates self.now)) }
     {
         let path = octets_of(alloc, self.path)?;
-        let profile = profile_of(self.wide);
+        let options = options_of(self.wide);
         let purpose = purpose_of(self.purpose.octets);
         let anchor = self.anchor.octets();
-        match read_query_under(
+        match Query::read_with(
             alloc,
-            profile,
             anchor,
             path.as_slice(),
             self.moment,
             purpose,
+            options,
         ) {
             Ok(query) => Ok(query),
             Err(refusal) => Err(Refusal::of_certificate(refusal)),

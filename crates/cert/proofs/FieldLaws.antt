@@ -1,5 +1,5 @@
 -- Each field of the extensions is what the extension of its type says.
-use Rattle.std.proofs.Common.{◌≡◌, ◌≢◌, ◌⊎◌, ◌&&◌, ◌==◌, Some, None, eqb-true, ℕ, zero, suc, Bool, true, false, not, List, [], ◌∷◌, ◌++◌, map, Option, AllPairs, Contains, filter, append-nil, append_assoc, if◌then◌else◌, arith, refl, sym, ap, ◌∙◌, subst, inl, inr}
+use Rattle.std.proofs.Common.{◌≡◌, ◌≢◌, ◌⊎◌, ◌&&◌, ◌||◌, ◌==◌, Some, None, eqb-true, ℕ, zero, suc, Bool, true, false, not, List, [], ◌∷◌, ◌++◌, map, Option, AllPairs, Contains, filter, append-nil, append_assoc, if◌then◌else◌, arith, refl, sym, ap, ◌∙◌, subst, inl, inr}
 use Rattle.std.specs.List.{AllByRecursion, AllZip}
 use Rattle.std.specs.Str.{bytes_eq}
 use Rattle.std.proofs.lemmas.Bool.{cases_Bool}
@@ -13,10 +13,10 @@ use Rattle.names.specs.GeneralLayout.{GeneralName}
 use Rattle.cert.specs.declared.extension_kind.ExtensionKind.{ExtensionKind}
 use Rattle.cert.specs.declared.extension_kind.ExtensionKind.TheVariants as Kind
 use Rattle.cert.specs.Extension.{Extension, IsExtension}
-use Rattle.cert.specs.Extensions.{Extensions, Saying, key_usage_is, alternative_names_are, basic_constraints_are, name_constraints_are, purposes_are, policies_are_processed, need_not_be_checked, says_nothing, no_extensions, told_key_usage, told_alternative_names, told_basic_constraints, told_name_constraints, told_purposes, told_policy, told_no_check, kind_of_extension, is_only_kept, is_policy_kind, is_recognised, one_told}
+use Rattle.cert.specs.Extensions.{Extensions, is_policies, is_critical_policies, Saying, key_usage_is, alternative_names_are, basic_constraints_are, name_constraints_are, purposes_are, policies_are_processed, need_not_be_checked, says_nothing, no_extensions, told_key_usage, told_alternative_names, told_basic_constraints, told_name_constraints, told_purposes, told_policy, told_no_check, kind_of_extension, is_only_kept, is_policy_kind, is_recognised, one_told}
 use Rattle.cert.specs.ExtensionValues.{kept_if, kind_number}
 use Rattle.cert.specs.ExtensionForms.{Says, Told, Tells, all_told}
-use Rattle.cert.specs.ExtensionFields.{id_ce, id_ocsp_no_check, has_recognised_type, IsPolicyProcessing, HasOneOf, IsFieldOf, SaysKeyUsage, SaysBasicConstraints, AreFieldsOf, AreValuesOf, IsValueOf, ExtensionsAreByField}
+use Rattle.cert.specs.ExtensionFields.{id_ce, id_ocsp_no_check, has_recognised_type, IsPolicyProcessing, HasOneOf, IsCriticalPolicies, IsFieldOf, SaysKeyUsage, SaysBasicConstraints, AreFieldsOf, AreValuesOf, IsValueOf, ExtensionsAreByField}
 use Rattle.cert.specs.AlternativeNames.{AreAlternativeNames}
 use Rattle.cert.specs.BasicConstraints.{BasicConstraints}
 use Rattle.cert.specs.NameConstraints.{NameConstraints, IsNameConstraints}
@@ -74,14 +74,18 @@ module _ {X : Type 0} (get : Extensions → X) (set : Told → X → X) (type : 
         later one list before says.0 other (field_of list (after one before) says.1 (rest_pairs one list pairs))
   ]
 
--- a mark, which extensions of some types set
-module _ (get : Extensions → Bool) (set : Saying → Bool → Bool) (IsType : List ℕ → Type 0)
-    (commutes : (one : Told) (before : Extensions) → get (after one before) ≡ set one.saying (get before))
-    (set_by : (one : Told) (x : Bool) → SaysSo one → set one.saying x ≡ true → (x ≡ true) ⊎ IsType one.extension.oid)
-    (stays : (one : Told) → set one.saying true ≡ true)
-    (sets : (one : Told) (x : Bool) → SaysSo one → IsType one.extension.oid → set one.saying x ≡ true) where
+-- an extension of some kind is among these
+abbrev HasOne : (Extension → Type 0) → List Extension → Type 0
+HasOne IsOne list = (e : Extension) × Contains list e × IsOne e
+
+-- a mark, which some extensions set
+module _ (get : Extensions → Bool) (set : Told → Bool → Bool) (IsOne : Extension → Type 0)
+    (commutes : (one : Told) (before : Extensions) → get (after one before) ≡ set one (get before))
+    (set_by : (one : Told) (x : Bool) → SaysSo one → set one x ≡ true → (x ≡ true) ⊎ IsOne one.extension)
+    (stays : (one : Told) → set one true ≡ true)
+    (sets : (one : Told) (x : Bool) → SaysSo one → IsOne one.extension → set one x ≡ true) where
   marked_by : (list : List Told) (before : Extensions) → AllByRecursion SaysSo list → get (all_told list before) ≡ true
-      → (get before ≡ true) ⊎ HasOneOf IsType (map extension_in list)
+      → (get before ≡ true) ⊎ HasOne IsOne (map extension_in list)
   marked_by [] before says marked = inl marked
   marked_by (one ∷ list) before says marked = elim (marked_by list (after one before) says.1 marked) [
     | inl next ↦ elim (set_by one (get before) says.0 (sym (commutes one before) ∙ next)) [
@@ -93,12 +97,12 @@ module _ (get : Extensions → Bool) (set : Saying → Bool → Bool) (IsType : 
 
   stays_marked : (list : List Told) (before : Extensions) → get before ≡ true → get (all_told list before) ≡ true
   stays_marked [] before was = was
-  stays_marked (one ∷ list) before was = stays_marked list (after one before) (commutes one before ∙ ap (set one.saying) was ∙ stays one)
+  stays_marked (one ∷ list) before was = stays_marked list (after one before) (commutes one before ∙ ap (set one) was ∙ stays one)
 
-  marks : (list : List Told) (before : Extensions) → AllByRecursion SaysSo list → HasOneOf IsType (map extension_in list) → get (all_told list before) ≡ true
+  marks : (list : List Told) (before : Extensions) → AllByRecursion SaysSo list → HasOne IsOne (map extension_in list) → get (all_told list before) ≡ true
   marks [] before says (e, (k, within, found), is) = absurd (omega (arith, within))
   marks (one ∷ list) before says (e, (zero, within, found), is) =
-      stays_marked list (after one before) (commutes one before ∙ sets one (get before) says.0 (subst (λ (x : Extension). IsType x.oid) (sym found) is))
+      stays_marked list (after one before) (commutes one before ∙ sets one (get before) says.0 (subst IsOne (sym found) is))
   marks (one ∷ list) before says (e, (suc k, within, found), is) = marks list (after one before) says.1 (e, (k, omega (arith, within), found), is)
 
 -- the types that are listed
@@ -302,6 +306,43 @@ no_check_sets e policies_are_processed x says is = let no : is_policy_kind Kind.
 no_check_sets e need_not_be_checked x says is = refl
 no_check_sets e says_nothing x says is = let no : is_only_kept Kind.NoCheck ≡ true = sym (ap is_only_kept (of_no_check e.oid is)) ∙ says in absurd cc
 
+-- ---- critical certificatePolicies
+
+abbrev critical_by : Told → Bool → Bool
+critical_by one x = x || is_critical_policies one.extension
+
+are_policies : (kind : ExtensionKind) → is_policies kind ≡ true → kind ≡ Kind.Policies
+are_policies Kind.KeyUsage is = absurd cc
+are_policies Kind.AlternativeNames is = absurd cc
+are_policies Kind.BasicConstraints is = absurd cc
+are_policies Kind.NameConstraints is = absurd cc
+are_policies Kind.DistributionPoints is = absurd cc
+are_policies Kind.Policies is = refl
+are_policies Kind.PolicyMappings is = absurd cc
+are_policies Kind.PolicyConstraints is = absurd cc
+are_policies Kind.Purposes is = absurd cc
+are_policies Kind.InhibitAnyPolicy is = absurd cc
+are_policies Kind.NoCheck is = absurd cc
+are_policies Kind.Other is = absurd cc
+
+critical_set_by : (one : Told) (x : Bool) → critical_by one x ≡ true → (x ≡ true) ⊎ IsCriticalPolicies one.extension
+critical_set_by one true set = inl refl
+critical_set_by one false set = by one.extension.critical refl (is_policies (kind_of_extension one.extension.oid)) refl
+  where
+    by : (critical : Bool) → one.extension.critical ≡ critical → (policies : Bool) → is_policies (kind_of_extension one.extension.oid) ≡ policies → (false ≡ true) ⊎ IsCriticalPolicies one.extension
+    by false is policies are = let no : false ≡ true = sym (ap (λ b. b && is_policies (kind_of_extension one.extension.oid)) is) ∙ set in absurd cc
+    by true is false are = let no : false ≡ true = sym (ap (λ b. b && is_policies (kind_of_extension one.extension.oid)) is ∙ are) ∙ set in absurd cc
+    by true is true are = inr (record { type = type_is one.extension Kind.Policies (are_policies (kind_of_extension one.extension.oid) are); critical = is })
+
+critical_stays : (one : Told) → critical_by one true ≡ true
+critical_stays one = refl
+
+critical_sets : (one : Told) (x : Bool) → IsCriticalPolicies one.extension → critical_by one x ≡ true
+critical_sets one true is = refl
+critical_sets one false is =
+    let policies : is_policies (kind_of_extension one.extension.oid) ≡ true = ap is_policies (ap kind_of_extension is.type ∙ of_policies) in
+    ap (λ b. b && is_policies (kind_of_extension one.extension.oid)) is.critical ∙ policies
+
 -- ---- the values themselves
 
 type_in : (kind : ExtensionKind) (type : List ℕ) → kind_of_extension type ≡ kind → HasType kind type
@@ -376,12 +417,16 @@ fields_of list says pairs = record {
   name_constraints = field_of (λ (x : Extensions). x.name_constraints) (λ one. told_name_constraints one.saying) (id_ce 30) IsNameConstraints (λ one before. refl) (λ one x. silent_name_constraints one.extension one.saying x) (λ one x. spoken_name_constraints one.extension one.saying x) list no_extensions says pairs;
   purposes = field_of (λ (x : Extensions). x.purposes) (λ one. told_purposes one.saying) (id_ce 37) ArePurposes (λ one before. refl) (λ one x. silent_purposes one.extension one.saying x) (λ one x. spoken_purposes one.extension one.saying x) list no_extensions says pairs;
   needs_policy_processing = (
-    (λ marked. unmarked (marked_by (λ (x : Extensions). x.needs_policy_processing) told_policy IsPolicyProcessing (λ one before. refl) (λ one x. policy_set_by one.extension one.saying x) (λ one. policy_stays one.saying) (λ one x. policy_sets one.extension one.saying x) list no_extensions says marked)),
-    marks (λ (x : Extensions). x.needs_policy_processing) told_policy IsPolicyProcessing (λ one before. refl) (λ one x. policy_set_by one.extension one.saying x) (λ one. policy_stays one.saying) (λ one x. policy_sets one.extension one.saying x) list no_extensions says,
+    (λ marked. unmarked (marked_by (λ (x : Extensions). x.needs_policy_processing) (λ one. told_policy one.saying) (λ e. IsPolicyProcessing e.oid) (λ one before. refl) (λ one x. policy_set_by one.extension one.saying x) (λ one. policy_stays one.saying) (λ one x. policy_sets one.extension one.saying x) list no_extensions says marked)),
+    marks (λ (x : Extensions). x.needs_policy_processing) (λ one. told_policy one.saying) (λ e. IsPolicyProcessing e.oid) (λ one before. refl) (λ one x. policy_set_by one.extension one.saying x) (λ one. policy_stays one.saying) (λ one x. policy_sets one.extension one.saying x) list no_extensions says,
+  );
+  critical_policies = (
+    (λ marked. unmarked (marked_by (λ (x : Extensions). x.critical_policies) critical_by IsCriticalPolicies (λ one before. refl) (λ one x says. critical_set_by one x) critical_stays (λ one x says is. critical_sets one x is) list no_extensions says marked)),
+    marks (λ (x : Extensions). x.critical_policies) critical_by IsCriticalPolicies (λ one before. refl) (λ one x says. critical_set_by one x) critical_stays (λ one x says is. critical_sets one x is) list no_extensions says,
   );
   no_check = (
-    (λ marked. unmarked (marked_by (λ (x : Extensions). x.no_check) told_no_check (λ type. type ≡ id_ocsp_no_check) (λ one before. refl) (λ one x. no_check_set_by one.extension one.saying x) (λ one. no_check_stays one.saying) (λ one x. no_check_sets one.extension one.saying x) list no_extensions says marked)),
-    marks (λ (x : Extensions). x.no_check) told_no_check (λ type. type ≡ id_ocsp_no_check) (λ one before. refl) (λ one x. no_check_set_by one.extension one.saying x) (λ one. no_check_stays one.saying) (λ one x. no_check_sets one.extension one.saying x) list no_extensions says,
+    (λ marked. unmarked (marked_by (λ (x : Extensions). x.no_check) (λ one. told_no_check one.saying) (λ e. e.oid ≡ id_ocsp_no_check) (λ one before. refl) (λ one x. no_check_set_by one.extension one.saying x) (λ one. no_check_stays one.saying) (λ one x. no_check_sets one.extension one.saying x) list no_extensions says marked)),
+    marks (λ (x : Extensions). x.no_check) (λ one. told_no_check one.saying) (λ e. e.oid ≡ id_ocsp_no_check) (λ one before. refl) (λ one x. no_check_set_by one.extension one.saying x) (λ one. no_check_stays one.saying) (λ one x. no_check_sets one.extension one.saying x) list no_extensions says,
   );
   unrecognised = listed_behind list no_extensions;
   values = values_of list says pairs;

@@ -24,6 +24,7 @@ use Rattle.cert.specs.SubjectPublicKeyInfo.{SubjectPublicKeyInfo, seen_key_info}
 use Rattle.cert.specs.BitString.{BitString, bit_string_at, seen_bit_string, has_no_unused_bits}
 use Rattle.cert.specs.Version.{is_v3}
 use Rattle.cert.specs.Extensions.{Extensions, no_extensions, extensions, seen_extensions}
+use Rattle.cert.specs.CertificatePoints.{CertificatePoints, no_points, seen_points}
 use Rattle.cert.specs.CertificateHosts.{CertificateHosts, no_hosts, seen_hosts}
 use Rattle.cert.specs.TbsCertificate.{TbsHead, Subject, component, tbs_head, tbs_subject, seen_tbs_head, seen_subject}
 
@@ -99,7 +100,7 @@ pub record Certificate : Type 0 where
   pub key_info : SubjectPublicKeyInfo
   pub extensions : Extensions
   pub signature : BitString
-  pub points : List (List ℕ)
+  pub points : CertificatePoints
   pub hosts : CertificateHosts
 
 abbrev pub seen_certificate : code.Certificate → Certificate
@@ -115,7 +116,7 @@ seen_certificate read = record {
   key_info = seen_key_info read.subject_public_key_info;
   extensions = seen_extensions read.extensions;
   signature = seen_bit_string read.signature;
-  points = map (λ name. name.now) read.points.items;
+  points = seen_points read.points;
   hosts = seen_hosts read.hosts;
 }
 
@@ -132,7 +133,7 @@ certificate_with octets signed tbs signature = record {
   key_info = tbs.subject.key_info;
   extensions = tbs.extensions;
   signature = signature;
-  points = [];
+  points = no_points;
   hosts = no_hosts;
 }
 

@@ -41,6 +41,14 @@ IsPolicyProcessing type = (type ≡ id_ce 33) ⊎ (type ≡ id_ce 36) ⊎ (type 
 abbrev pub HasOneOf : (List ℕ → Type 0) → List Extension → Type 0
 HasOneOf IsType list = (e : Extension) × Contains list e × IsType e.oid
 
+-- certificatePolicies is among them, and critical
+pub record IsCriticalPolicies (e : Extension) : Type 0 where
+  pub type : e.oid ≡ id_ce 32
+  pub critical : e.critical ≡ true
+
+abbrev pub HasCriticalPolicies : List Extension → Type 0
+HasCriticalPolicies list = (e : Extension) × Contains list e × IsCriticalPolicies e
+
 -- The field is what the value of the extension of this type says. Where there is none, it is as without extensions.
 abbrev pub IsFieldOf : {X : Type 0} → List Extension → List ℕ → (Place → X → Type 0) → X → X → Type 0
 IsFieldOf list type Says nothing field =
@@ -76,6 +84,7 @@ pub record AreFieldsOf (list : List Extension) (fields : Extensions) : Type 0 wh
   pub name_constraints : IsFieldOf list (id_ce 30) IsNameConstraints (record { permitted = []; excluded = [] }) fields.name_constraints
   pub purposes : IsFieldOf list (id_ce 37) ArePurposes [] fields.purposes
   pub needs_policy_processing : (fields.needs_policy_processing ≡ true) ↔ HasOneOf IsPolicyProcessing list
+  pub critical_policies : (fields.critical_policies ≡ true) ↔ HasCriticalPolicies list
   pub no_check : (fields.no_check ≡ true) ↔ HasOneOf (λ type. type ≡ id_ocsp_no_check) list
   -- the types of those that are critical and not recognised, in their order
   pub unrecognised : fields.unrecognised ≡ map (λ e. e.oid) (filter (λ e. e.critical && not (has_recognised_type e.oid)) list)

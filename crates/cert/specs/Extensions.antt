@@ -1,5 +1,5 @@
 -- What the extensions of a certificate say (RFC 5280, 4.2).
-use Rattle.std.specs.Prelude.{◌≡◌, ℕ, ◌==◌, ◌&&◌, Bool, true, false, not, List, [], ◌∷◌, ◌++◌, map, Option, Some, None, Result, Ok, if◌then◌else◌}
+use Rattle.std.specs.Prelude.{◌≡◌, ℕ, ◌==◌, ◌&&◌, ◌||◌, Bool, true, false, not, List, [], ◌∷◌, ◌++◌, map, Option, Some, None, Result, Ok, if◌then◌else◌}
 use Rattle.std.specs.Str.{bytes_eq}
 use Rattle.std.specs.FinSet.{empty, contains, insert}
 use Rattle.asn.specs.Place.{Place, seen_tlv}
@@ -82,6 +82,11 @@ is_recognised Kind.NoCheck = false
 is_recognised Kind.Other = false
 is_recognised kind = true
 
+-- The kind of certificatePolicies (4.2.1.4).
+abbrev pub is_policies : ExtensionKind → Bool
+is_policies Kind.Policies = true
+is_policies kind = false
+
 -- What the extensions say together: lists are empty where the extension is not there.
 pub record Extensions : Type 0 where
   pub key_usage : Option (List ℕ)
@@ -90,6 +95,7 @@ pub record Extensions : Type 0 where
   pub name_constraints : NameConstraints
   pub purposes : List (List ℕ)
   pub needs_policy_processing : Bool
+  pub critical_policies : Bool
   pub no_check : Bool
   pub unrecognised : List (List ℕ)
   pub values : ExtensionValues
@@ -102,6 +108,7 @@ seen_extensions read = record {
   name_constraints = seen_name_constraints read.name_constraints;
   purposes = map oid_contents read.purposes.items;
   needs_policy_processing = read.needs_policy_processing;
+  critical_policies = read.critical_policies;
   no_check = read.no_check;
   unrecognised = map oid_contents read.unrecognised.items;
   values = seen_values read.values;
@@ -115,6 +122,7 @@ no_extensions = record {
   name_constraints = record { permitted = []; excluded = [] };
   purposes = [];
   needs_policy_processing = false;
+  critical_policies = false;
   no_check = false;
   unrecognised = [];
   values = no_values;
@@ -183,6 +191,7 @@ told s before = record {
   name_constraints = told_name_constraints s before.name_constraints;
   purposes = told_purposes s before.purposes;
   needs_policy_processing = told_policy s before.needs_policy_processing;
+  critical_policies = before.critical_policies;
   no_check = told_no_check s before.no_check;
   unrecognised = before.unrecognised;
   values = before.values;
@@ -192,6 +201,10 @@ told s before = record {
 abbrev pub listed : Extension → List (List ℕ) → List (List ℕ)
 listed e before = if e.critical && not (is_recognised (kind_of_extension e.oid)) then before ++ e.oid ∷ [] else before
 
+-- It is certificatePolicies, and critical.
+abbrev pub is_critical_policies : Extension → Bool
+is_critical_policies e = e.critical && is_policies (kind_of_extension e.oid)
+
 abbrev pub noted : Extension → Extensions → Extensions
 noted e before = record {
   key_usage = before.key_usage;
@@ -200,6 +213,7 @@ noted e before = record {
   name_constraints = before.name_constraints;
   purposes = before.purposes;
   needs_policy_processing = before.needs_policy_processing;
+  critical_policies = before.critical_policies || is_critical_policies e;
   no_check = before.no_check;
   unrecognised = listed e before.unrecognised;
   values = before.values;

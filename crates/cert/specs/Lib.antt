@@ -15,6 +15,7 @@ pub mod Version
 pub mod SubjectPublicKeyInfo
 pub mod OidSet
 pub mod TbsCertificate
+pub mod CertificatePoints
 pub mod CertificateHosts
 pub mod Certificate
 pub mod ExtensionForms

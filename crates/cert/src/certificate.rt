@@ -13,6 +13,7 @@ use crate::extensions::Extensions;
 use crate::fault::{CertFault, CertRefusal, CertRule};
 use crate::hosts::CertificateHosts;
 use crate::key_info::SubjectPublicKeyInfo;
+use crate::points::CertificatePoints;
 use crate::tbs::{Subject, TbsHead};
 use crate::validity::Validity;
 use crate::version::Version;
@@ -41,9 +42,9 @@ pub struct Certificate<'a> {
     pub extensions: Extensions<'a>,
     /// signatureValue, in which no bit is unused.
     pub signature: BitString<'a>,
-    /// The names under which lists about it are published, each a general name as its octets (4.2.1.13). Reading leaves them out: they
-    /// count in the wide profile alone.
-    pub points: Vec<&'a [u8]>,
+    /// The names of the points at which lists about it are published (4.2.1.13). Reading leaves them out: they count in the wide profile
+    /// alone.
+    pub points: CertificatePoints<'a>,
     /// What it says of mail addresses and of the hosts of URIs, if constraints on these are processed (4.2.1.10). Reading leaves it empty:
     /// it counts in the wide profile alone.
     pub hosts: CertificateHosts<'a>,
@@ -186,7 +187,7 @@ impl<'a> Certificate<'a> {
             subject_public_key_info: tbs.subject.key_info,
             extensions: tbs.extensions,
             signature,
-            points: Vec::new(alloc),
+            points: CertificatePoints::none(alloc),
             hosts: CertificateHosts::none(alloc),
         })
     }

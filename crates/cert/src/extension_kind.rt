@@ -1,7 +1,7 @@
 //! Which extensions are known, by the contents of their OBJECT IDENTIFIERs.
 
 ghost use Rattle.std.specs.Prelude.{◌≡◌};
-ghost use Rattle.cert.specs.Extensions.{certificate_extension, is_recognised, kind_of_extension};
+ghost use Rattle.cert.specs.Extensions.{certificate_extension, is_policies, is_recognised, kind_of_extension};
 
 /// What an extension is about.
 #[derive(Clone, Copy, Debug, PartialEq, Eq)]
@@ -67,6 +67,13 @@ impl ExtensionKind {
             None if oid == NO_CHECK => ExtensionKind::NoCheck,
             None => ExtensionKind::Other,
         }
+    }
+
+    /// Whether these are certificatePolicies.
+    pub(crate) fn is_policies(self) -> bool
+        ensures { result ≡ is_policies self }
+    {
+        matches!(self, ExtensionKind::Policies)
     }
 
     /// Whether validation of a path handles such extensions; a certificate of a path with another critical one is refused.

@@ -33,6 +33,8 @@ pub struct Extensions<'a> {
     pub purposes: Vec<Oid<'a>>,
     /// Whether there is policyMappings, policyConstraints or inhibitAnyPolicy.
     pub needs_policy_processing: bool,
+    /// Whether there is certificatePolicies, and it is critical.
+    pub critical_policies: bool,
     /// Whether there is id-pkix-ocsp-nocheck.
     pub no_check: bool,
     /// The types of those that are critical and not recognised, in order.
@@ -56,6 +58,7 @@ impl<'a> Extensions<'a> {
             },
             purposes: Vec::new(alloc),
             needs_policy_processing: false,
+            critical_policies: false,
             no_check: false,
             unrecognised: Vec::new(alloc),
             values: ExtensionValues::none(),
@@ -94,7 +97,7 @@ impl<'a> Extensions<'a> {
         Ok(())
     }
 
-    /// Lists the type of an extension, of that kind, that is critical and not recognised.
+    /// Lists the type of an extension, of that kind, that is critical and not recognised, and notes whether it is critical certificatePolicies.
     fn note(&mut self, kind: ExtensionKind, extension: Extension<'a>) -> Result<(), CertFault>
         requires { kind ≡ kind_of_extension (oid_contents extension.oid) }
         ensures full { OnErr result (result ≡ Err Memory) }
@@ -103,6 +106,8 @@ impl<'a> Extensions<'a> {
         if extension.critical && !kind.is_recognised() {
             self.unrecognised.push(extension.oid)?;
         }
+        let is_critical_policies = extension.critical && kind.is_policies();
+        self.critical_policies = self.critical_policies | is_critical_policies;
         Ok(())
     }
 }

@@ -9,8 +9,9 @@ use std::alloc::Global;
 /// What a certificate says of mail addresses and of the hosts of URIs (RFC 5280, 4.1.2.6, 4.2.1.6, 4.2.1.10).
 #[derive(Drop)]
 pub struct CertificateHosts<'a> {
-    /// Its mail addresses: the emailAddresses of its subject, and then the rfc822Names of subjectAltName, in order.
-    pub mail: Vec<MailName<'a>>,
+    /// Of each emailAddress of its subject, and then of each rfc822Name and SmtpUTF8Mailbox of subjectAltName, in order, the mailbox; `None`
+    /// if it is none of the form that is processed.
+    pub mail: Vec<Option<MailName<'a>>>,
     /// Of each uniformResourceIdentifier of subjectAltName, in order, the host; `None` if it has none that is a DNS name.
     pub hosts: Vec<Option<&'a [u8]>>,
     /// The bases of permitted subtrees of mail addresses, in order.

@@ -1,5 +1,4 @@
 -- The laws that other crates may cite.
-pub use Rattle.cert_hosts.proofs.OneAnswer.{one_answer, either, one_refusal}
-pub use Rattle.cert_hosts.proofs.WalkedHosts.{hosts_are_exact, refusals_are_exact}
+pub use Rattle.cert_hosts.proofs.WalkedHosts.{hosts_are_exact, refusals_are_exact, one_answer, either, one_refusal}
 pub use Rattle.cert_hosts.proofs.FaultPlaces.{fault_is_within}
-pub use Rattle.cert_hosts.proofs.OwnHosts.{hosts_are_its_own}
+pub use Rattle.cert_hosts.proofs.OwnBases.{bases_are_its_own}

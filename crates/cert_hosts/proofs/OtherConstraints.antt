@@ -10,7 +10,7 @@ use Rattle.cert_hosts.specs.Taken.{HasTakenHosts, hosted, other_constraints}
 abbrev with_constraints : Certificate → CertificateHosts → NameConstraints → Certificate
 with_constraints c hosts constraints = record c { extensions = record c.extensions { name_constraints = constraints }; hosts = hosts }
 
-pub has_taken : (c : Certificate) (hosts : CertificateHosts) (constraints : NameConstraints) → certificate_hosts c.tbs ≡ Ok hosts
+pub has_taken : (c : Certificate) (hosts : CertificateHosts) (constraints : NameConstraints) → certificate_hosts c ≡ Ok hosts
     → constraints ≡ other_constraints c.extensions.name_constraints → HasTakenHosts c (with_constraints c hosts constraints)
 has_taken c hosts constraints are_its is = record { hosts = hosts; are_its = are_its; is_taken = ap (with_constraints c hosts) is }
 

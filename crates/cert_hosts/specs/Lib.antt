@@ -1,9 +1,11 @@
-pub mod CertificateHosts
-pub mod SaidValues
+pub mod BaseLists
+pub mod Mailboxes
+pub mod OwnNames
+pub mod Bases
 pub mod Reading
 pub mod HostsWalk
 pub mod Taken
-pub mod OwnHosts
+pub mod OwnBases
 pub mod Laws
 pub use Rattle.asn.specs.Place
 pub use Rattle.cert.specs.Certificate

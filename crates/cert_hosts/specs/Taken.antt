@@ -29,11 +29,11 @@ hosted read hosts = record read {
 
 pub record HasTakenHosts (read taken : Certificate) : Type 0 where
   pub hosts : CertificateHosts
-  pub are_its : certificate_hosts read.tbs ≡ Ok hosts
+  pub are_its : certificate_hosts read ≡ Ok hosts
   pub is_taken : taken ≡ hosted read hosts
 
 -- The offset of a fault is that of an octet of the certificate, or of its end.
 abbrev pub HostFaultIsWithin : Type 0
 HostFaultIsWithin =
     (octets : List ℕ) (certificate : Certificate) (rule : CertRule) (at : ℕ) →
-    AreOctets octets → IsCertificate octets certificate → certificate_hosts certificate.tbs ≡ Err (rule, at) → at ≤ length octets
+    AreOctets octets → IsCertificate octets certificate → certificate_hosts certificate ≡ Err (rule, at) → at ≤ length octets

@@ -2,20 +2,28 @@
 
 ghost use Rattle.std.specs.Prelude.{true, false};
 ghost use Rattle.asn.specs.Reading.{left, seen_tlv};
-ghost use Rattle.cert_hosts.specs.SaidValues.{Finds, FindsIn, FindsNext, one_subtree, next_list, in_constraints};
+ghost use Rattle.cert.specs.ExtensionValues.{seen_values};
+ghost use Rattle.cert.specs.Fault.{GivesUnlessFull};
+ghost use Rattle.cert_hosts.specs.Bases.{all_bases, bases_in, Finds, FindsIn, FindsNext, one_subtree, next_list, in_constraints};
 
-use crate::alternative_names::{RFC822_NAME, URI_NAME};
+use crate::base::Base;
 use crate::contained::contained_value;
-use crate::said::Said;
 use asn::{Cursor, SEQUENCE, Tlv};
-use cert::{CertFault, CertRule};
+use cert::{CertFault, CertRule, ExtensionKind, ExtensionValues};
+use std::alloc::Global;
+
+/// rfc822Name [1] IA5String
+const RFC822_NAME: u8 = 0x81;
+
+/// uniformResourceIdentifier [6] IA5String
+const URI_NAME: u8 = 0x86;
 
 /// GeneralSubtree ::= SEQUENCE { base GeneralName, minimum [0], maximum [1] }
 ///
 /// Adds the base, if it is about mail addresses or URIs.
-#[tactic(auto, unfolding(crate::specs::SaidValues::one_subtree))]
+#[tactic(auto, unfolding(crate::specs::Bases::one_subtree))]
 fn take_subtree<'a>(
-    all: &mut Vec<Said<'a>>,
+    all: &mut Vec<Base<'a>>,
     permitted: bool,
     value: Tlv<'a>,
 ) -> Result<(), CertFault>
@@ -25,8 +33,8 @@ fn take_subtree<'a>(
     let mut members = value.members();
     let base = members.next_or(CertRule::ExtensionValue)?;
     match base.tag {
-        RFC822_NAME => all.push(Said::MailBase(permitted, base))?,
-        URI_NAME => all.push(Said::HostBase(permitted, base))?,
+        RFC822_NAME => all.push(Base::Mail(permitted, base))?,
+        URI_NAME => all.push(Base::Host(permitted, base))?,
         _ => {}
     }
     Ok(())
@@ -34,7 +42,7 @@ fn take_subtree<'a>(
 
 /// GeneralSubtrees ::= SEQUENCE SIZE (1..MAX) OF GeneralSubtree: the values inside.
 fn take_subtrees<'a>(
-    all: &mut Vec<Said<'a>>,
+    all: &mut Vec<Base<'a>>,
     permitted: bool,
     members: Cursor<'a>,
 ) -> Result<(), CertFault>
@@ -48,8 +56,8 @@ fn take_subtrees<'a>(
 }
 
 /// permittedSubtrees [0] GeneralSubtrees OPTIONAL
-#[tactic(auto, unfolding(crate::specs::SaidValues::next_list))]
-fn take_permitted<'a>(all: &mut Vec<Said<'a>>, members: &mut Cursor<'a>) -> Result<(), CertFault>
+#[tactic(auto, unfolding(crate::specs::Bases::next_list))]
+fn take_permitted<'a>(all: &mut Vec<Base<'a>>, members: &mut Cursor<'a>) -> Result<(), CertFault>
     ensures { FindsNext all.old all.new result (next_list true 0xA0) (left members.old)
         (left members.new) }
 {
@@ -60,8 +68,8 @@ fn take_permitted<'a>(all: &mut Vec<Said<'a>>, members: &mut Cursor<'a>) -> Resu
 }
 
 /// excludedSubtrees [1] GeneralSubtrees OPTIONAL
-#[tactic(auto, unfolding(crate::specs::SaidValues::next_list))]
-fn take_excluded<'a>(all: &mut Vec<Said<'a>>, members: &mut Cursor<'a>) -> Result<(), CertFault>
+#[tactic(auto, unfolding(crate::specs::Bases::next_list))]
+fn take_excluded<'a>(all: &mut Vec<Base<'a>>, members: &mut Cursor<'a>) -> Result<(), CertFault>
     ensures { FindsNext all.old all.new result (next_list false 0xA1) (left members.old)
         (left members.new) }
 {
@@ -74,11 +82,8 @@ fn take_excluded<'a>(all: &mut Vec<Said<'a>>, members: &mut Cursor<'a>) -> Resul
 /// NameConstraints ::= SEQUENCE { permittedSubtrees [0] GeneralSubtrees OPTIONAL, excludedSubtrees [1] GeneralSubtrees OPTIONAL }
 ///
 /// Adds the bases on mail addresses and URIs of the constraints that the OCTET STRING holds.
-#[tactic(auto, unfolding(crate::specs::SaidValues::in_constraints))]
-pub(crate) fn take_constraints<'a>(
-    all: &mut Vec<Said<'a>>,
-    octet_string: Tlv<'a>,
-) -> Result<(), CertFault>
+#[tactic(auto, unfolding(crate::specs::Bases::in_constraints))]
+fn take_constraints<'a>(all: &mut Vec<Base<'a>>, octet_string: Tlv<'a>) -> Result<(), CertFault>
     ensures { Finds all.old all.new result in_constraints (seen_tlv octet_string.entry) }
 {
     let value = contained_value(octet_string)?;
@@ -87,4 +92,20 @@ pub(crate) fn take_constraints<'a>(
     take_permitted(all, &mut members)?;
     take_excluded(all, &mut members)?;
     Ok(())
+}
+
+/// The bases on mail addresses and URIs of the certificate with these values of extensions, in order.
+#[tactic(auto, unfolding(crate::specs::Bases::bases_in))]
+pub(crate) fn bases_in<'a>(
+    alloc: Global,
+    values: &ExtensionValues<'a>,
+) -> Result<Vec<Base<'a>>, CertFault>
+    ensures { GivesUnlessFull all_bases result (bases_in (seen_values values.now)) }
+{
+    let mut all = Vec::new(alloc);
+    match values.of(ExtensionKind::NameConstraints) {
+        None => {}
+        Some(octet_string) => take_constraints(&mut all, octet_string)?,
+    }
+    Ok(all)
 }

@@ -2,13 +2,13 @@
 
 ghost use Rattle.cert_hosts.specs.Laws.{HostsHaveOneAnswer, SaidIsNotRefused, RefusalIsOne, HostsAreExact, RefusalsAreExact};
 ghost use Rattle.cert_hosts.specs.Taken.{HostFaultIsWithin};
-ghost use Rattle.cert_hosts.specs.OwnHosts.{HostsAreItsOwn};
+ghost use Rattle.cert_hosts.specs.OwnBases.{BasesAreItsOwn};
 
 use cert::certificate_laws;
 
-/// The signed part of a certificate says one thing of mail addresses and hosts, or has one first fault in them, and never both; and the walk
-/// over its values gives just that. The fault of a certificate stands in it, or at its end. What is found is what the `alternative_names` and
-/// the `name_constraints` of the certificate have of these forms.
+/// A certificate says one thing of mail addresses and hosts, or has one first fault in its bases, and never both; and the walk over these gives
+/// just that. The fault of a certificate stands in it, or at its end. The bases that are found are those that its `name_constraints` have of
+/// these forms.
 pub fn certificate_hosts_laws()
     ensures one { HostsHaveOneAnswer }
     ensures either { SaidIsNotRefused }
@@ -16,7 +16,7 @@ pub fn certificate_hosts_laws()
     ensures exact { HostsAreExact }
     ensures exact_refusal { RefusalsAreExact }
     ensures fault { HostFaultIsWithin }
-    ensures own { HostsAreItsOwn }
+    ensures own { BasesAreItsOwn }
 {
     certificate_laws();
 }

@@ -41,12 +41,12 @@ fn leave_others(constraints: &mut NameConstraints<'_>)
 
 /// Takes what a certificate says of mail addresses and of the hosts of URIs into its `hosts` (RFC 5280, 4.2.1.10), and the subtrees of these
 /// forms out of its `nameConstraints`: path validation then processes them, where it else refuses each name of a form that is constrained.
-/// Else the first value that is malformed is reported, as by `read_hosts`, and the certificate is as it was.
+/// Else the first base that is malformed is reported, as by `read_hosts`, and the certificate is as it was.
 pub fn take_hosts<'a>(alloc: Global, certificate: &mut Certificate<'a>) -> Result<(), CertFault>
     ensures taken { OnOk result (HasTakenHosts
         (seen_certificate certificate.old) (seen_certificate certificate.new)) }
     ensures refused { IfErr result (λ fault.
-        FailsUnlessFull fault (certificate_hosts (seen_certificate certificate.old).tbs)) }
+        FailsUnlessFull fault (certificate_hosts (seen_certificate certificate.old))) }
     ensures same { IfErr result (λ _. certificate.new ≡ certificate.old) }
 {
     let hosts = read_hosts(alloc, certificate)?;

@@ -9,6 +9,7 @@ mod ChosenNames
 mod OnePoint
 mod ManyPoints
 mod CompletePoints
+mod LimitedPoints
 mod PointsOfCertificate
 mod FaultSteps
 mod PointFaults

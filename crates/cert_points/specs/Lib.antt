@@ -5,6 +5,7 @@ pub mod ReasonFlags
 pub mod DistributionPoint
 pub mod DistributionPoints
 pub mod CompleteNames
+pub mod LimitedNames
 pub mod PointReading
 pub mod OneAnswer
 pub mod Published

@@ -1,13 +1,15 @@
 -- The points of a certificate, as it carries them where they count (RFC 5280, 4.2.1.13).
-use Rattle.std.specs.Prelude.{◌≡◌, ℕ, List, [], Option, Some, None, Ok}
+use Rattle.std.specs.Prelude.{◌≡◌, List, Option, Some, None, Ok}
 use Rattle.cert.specs.Certificate.{Certificate}
+use Rattle.cert.specs.CertificatePoints.{CertificatePoints, no_points}
 use Rattle.cert_points.specs.DistributionPoint.{DistributionPoint}
 use Rattle.cert_points.specs.CompleteNames.{complete_names}
+use Rattle.cert_points.specs.LimitedNames.{limited_names}
 use Rattle.cert_points.specs.PointReading.{certificate_points}
 
-abbrev pub names_if_found : Option (List DistributionPoint) → List (List ℕ)
-names_if_found None = []
-names_if_found (Some points) = complete_names points
+abbrev pub names_if_found : Option (List DistributionPoint) → CertificatePoints
+names_if_found None = no_points
+names_if_found (Some points) = record { complete = complete_names points; limited = limited_names points }
 
 -- the certificate as it was read, with the names under which lists about it may be published
 pub record HasTakenPoints (read taken : Certificate) : Type 0 where

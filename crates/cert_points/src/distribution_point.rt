@@ -7,6 +7,7 @@ ghost use Rattle.cert_points.specs.PointName.{point_name, seen_point_name};
 ghost use Rattle.cert_points.specs.ReasonFlags.{reason_flags};
 ghost use Rattle.cert_points.specs.DistributionPoint.{read_optional, point_members, is_told, distribution_point, seen_point};
 ghost use Rattle.cert_points.specs.CompleteNames.{names_if_any, complete_names_of};
+ghost use Rattle.cert_points.specs.LimitedNames.{limited_names_of};
 
 use crate::general_names::GeneralNames;
 use crate::point_name::PointName;
@@ -110,6 +111,17 @@ impl<'a> DistributionPoint<'a> {
     {
         match (self.name, self.reasons, self.issuer) {
             (Some(PointName::FullName(names)), None, None) => Some(names),
+            _ => None,
+        }
+    }
+
+    /// The names of the point, if it has reasons or cRLIssuer: its full name.
+    pub fn limited_names(&self) -> Option<GeneralNames<'a>>
+        ensures { names_if_any result ≡ limited_names_of (seen_point self.now) }
+    {
+        match (self.name, self.reasons, self.issuer) {
+            (Some(PointName::FullName(_)), None, None) => None,
+            (Some(PointName::FullName(names)), _, _) => Some(names),
             _ => None,
         }
     }

@@ -6,6 +6,7 @@ ghost use Rattle.cert.specs.Fault.{GivesUnlessFull, ReadsUnlessFull};
 ghost use Rattle.cert_points.specs.GeneralNames.{octets_of};
 ghost use Rattle.cert_points.specs.DistributionPoints.{all_points, distribution_points, seen_points, seen_point_list, AddsPoint};
 ghost use Rattle.cert_points.specs.CompleteNames.{complete_names, AddsCompleteNames};
+ghost use Rattle.cert_points.specs.LimitedNames.{limited_names, AddsLimitedNames};
 
 use crate::distribution_point::DistributionPoint;
 use asn::{Cursor, SEQUENCE, Tlv};
@@ -72,6 +73,19 @@ fn push_complete_names<'a>(
     }
 }
 
+/// Adds the names of the point, if it has reasons or cRLIssuer.
+fn push_limited_names<'a>(
+    all: &mut Vec<&'a [u8]>,
+    point: &DistributionPoint<'a>,
+) -> Result<(), AllocError>
+    ensures { OnOk result (AddsLimitedNames point.now all.old all.new) }
+{
+    match point.limited_names() {
+        None => Ok(()),
+        Some(names) => names.push_octets(all),
+    }
+}
+
 impl<'a> DistributionPoints<'a> {
     /// Reads the points in the contents of an extension's OCTET STRING; else the first fault: `Der` in these, `ExtensionValue` at a value
     /// that is no SEQUENCE, or at the end of one that is empty, or that of a point. Time is linear in the octets. Memory is taken for
@@ -95,6 +109,17 @@ impl<'a> DistributionPoints<'a> {
         let mut all = Vec::new(alloc);
         for point in self.points.iter() {
             push_complete_names(&mut all, point)?;
+        }
+        Ok(all)
+    }
+
+    /// The full names of the other points, those with reasons or cRLIssuer, in order.
+    pub fn limited_names(&self, alloc: Global) -> Result<Vec<&'a [u8]>, AllocError>
+        ensures { IfOk result (λ names. octets_of names ≡ limited_names (seen_points self.now)) }
+    {
+        let mut all = Vec::new(alloc);
+        for point in self.points.iter() {
+            push_limited_names(&mut all, point)?;
         }
         Ok(all)
     }

@@ -6,6 +6,7 @@ pub mod PolicyConstraints
 pub mod InhibitAnyPolicy
 pub mod PolicyReading
 pub mod PolicyFields
+pub mod ProcessedPolicies
 pub mod Offsets
 pub use Rattle.asn.specs.DerLaws
 pub use Rattle.asn.specs.Oid

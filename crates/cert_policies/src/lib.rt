@@ -8,7 +8,9 @@ mod layout;
 mod mappings;
 mod number;
 mod policies;
+mod processed;
 
 pub use extensions::PolicyExtensions;
 pub use layout::policy_layout_laws;
 pub use mappings::PolicyMapping;
+pub use processed::are_policies_processed;

@@ -2,7 +2,7 @@
 use Rattle.std.specs.Prelude.{◌≡◌, ◌⊎◌, ⊤, ℕ, List, Option, Some, None, Result, Ok, Err}
 use Rattle.asn.specs.FirstFault.{IsFirstFault}
 use Rattle.cert.specs.Certificate.{Certificate}
-use Rattle.path_profiles.specs.InProfile.{certificate_under}
+use Rattle.path.specs.InProfile.{certificate_in}
 use Rattle.statements_facts.specs.Fact.{Fact}
 use Rattle.statements_facts.specs.declared.profile.Profile.{Profile}
 use Rattle.statements_facts.specs.declared.profile.Profile.TheVariants.{Stated}
@@ -33,13 +33,13 @@ IsUnread holds file NoMemory = Unit {0}
 IsUnread holds file _ = ⊥
 
 -- the file holds the octets of this certificate, read in a profile
-abbrev pub HoldsCertificateUnder : Profile → Holding → List ℕ → Certificate → Type 0
-HoldsCertificateUnder profile holds file read =
-    (octets : List ℕ) × holds.has file (Some octets) × (certificate_under profile octets ≡ Ok read)
+abbrev pub HoldsCertificateIn : Profile → Holding → List ℕ → Certificate → Type 0
+HoldsCertificateIn profile holds file read =
+    (octets : List ℕ) × holds.has file (Some octets) × (certificate_in profile octets ≡ Ok read)
 
 -- the same in the stated profile
 abbrev pub HoldsCertificate : Holding → List ℕ → Certificate → Type 0
-HoldsCertificate = HoldsCertificateUnder Stated
+HoldsCertificate = HoldsCertificateIn Stated
 
 -- the file holds the octets of this revocation list, in the profile
 abbrev pub HoldsList : Holding → List ℕ → CertificateList → Type 0
@@ -58,15 +58,15 @@ IsNoValue holds file (Refused named fault) =
 IsNoValue holds file failure = IsUnread holds file failure
 
 -- the same of a certificate, read in a profile
-abbrev pub IsNoCertificateUnder : Profile → Holding → List ℕ → Failure → Type 0
-IsNoCertificateUnder profile holds file (NoCertificate named rule at) =
+abbrev pub IsNoCertificateIn : Profile → Holding → List ℕ → Failure → Type 0
+IsNoCertificateIn profile holds file (NoCertificate named rule at) =
     (named.now ≡ file)
-    × ((octets : List ℕ) × holds.has file (Some octets) × (certificate_under profile octets ≡ Err (rule, at)))
-IsNoCertificateUnder profile holds file failure = IsUnread holds file failure
+    × ((octets : List ℕ) × holds.has file (Some octets) × (certificate_in profile octets ≡ Err (rule, at)))
+IsNoCertificateIn profile holds file failure = IsUnread holds file failure
 
 -- the same in the stated profile
 abbrev pub IsNoCertificate : Holding → List ℕ → Failure → Type 0
-IsNoCertificate = IsNoCertificateUnder Stated
+IsNoCertificate = IsNoCertificateIn Stated
 
 -- of a revocation list
 abbrev pub IsNoList : Holding → List ℕ → Failure → Type 0

@@ -1,13 +1,13 @@
 //! What the program reads.
 ghost use Rattle.std.specs.Prelude.{◌≡◌, Ok, IfErr, IfOk};
 ghost use Rattle.cert.specs.Certificate.{certificate, seen_certificate};
-ghost use Rattle.path_profiles.specs.InProfile.{certificate_under};
+ghost use Rattle.path.specs.InProfile.{certificate_in};
 ghost use Rattle.statements_crl.specs.CertificateList.{certificate_list_under, seen_list};
 ghost use Rattle.statements_ocsp.specs.OcspResponse.{ocsp_response, seen_response};
 ghost use Rattle.statements.specs.Statement.{genuine_statement_under};
 ghost use Rattle.statements_facts.specs.Fact.{facts_in};
 ghost use Rattle.statements_facts.specs.declared.profile.Profile.TheVariants.{Stated};
-ghost use Rattle.cli_failures.specs.Failures.{IsDenied, IsJust, IsNoCertificate, IsNoCertificateUnder, IsNoList, IsNoResponse, IsUnread};
+ghost use Rattle.cli_failures.specs.Failures.{IsDenied, IsJust, IsNoCertificate, IsNoCertificateIn, IsNoList, IsNoResponse, IsUnread};
 
 use crate::extent::{Extent, read_extent};
 use crate::failure::Failure;
@@ -69,18 +69,18 @@ impl<R: Files + AllocGlobal> Source for R {
 }
 
 /// The certificate that the octets of the file are, in the profile: in the wide one with its points, mail addresses and hosts.
-pub fn read_certificate_under<'a, 'o>(
+pub fn read_certificate_in<'a, 'o>(
     alloc: Global,
     profile: Profile,
     file: &'a str,
     octets: &'o [u8],
 ) -> Result<Certificate<'o>, Failure<'a>>
     ensures reads { IfOk result (λ read.
-        certificate_under profile octets.now ≡ Ok (seen_certificate read)) }
+        certificate_in profile octets.now ≡ Ok (seen_certificate read)) }
     ensures fails { IfErr result
-        (IsNoCertificateUnder profile (IsJust profile octets.now) file.entry.now) }
+        (IsNoCertificateIn profile (IsJust profile octets.now) file.entry.now) }
 {
-    match path_profiles::read_certificate_under(alloc, profile, octets) {
+    match path::read_certificate(alloc, profile, octets) {
         Ok(read) => Ok(read),
         Err(CertFault::Refused(rule, at)) => Err(Failure::NoCertificate { file, rule, at }),
         Err(CertFault::Memory) => Err(Failure::NoMemory),
@@ -96,7 +96,7 @@ pub fn read_certificate<'a, 'o>(
     ensures reads { IfOk result (λ read. certificate octets.now ≡ Ok (seen_certificate read)) }
     ensures fails { IfErr result (IsNoCertificate (IsJust Stated octets.now) file.entry.now) }
 {
-    read_certificate_under(alloc, Profile::Stated, file, octets)
+    read_certificate_in(alloc, Profile::Stated, file, octets)
 }
 
 /// The revocation list that the octets of the file are, in the profile.

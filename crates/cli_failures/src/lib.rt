@@ -14,7 +14,7 @@ pub use delivered::hint_after_delivery;
 pub use extent::Extent;
 pub use failure::{Failure, StoreRefusal};
 pub use files::{
-    Source, read_certificate, read_certificate_under, read_facts, read_list, read_response,
+    Source, read_certificate, read_certificate_in, read_facts, read_list, read_response,
 };
 pub use hints::hint_to;
 pub use looking::is_in_use;

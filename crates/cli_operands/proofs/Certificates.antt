@@ -5,7 +5,7 @@ use Rattle.std.proofs.lemmas.List.{append-nil, get_or_default, length-append, ma
 use Rattle.std.proofs.lemmas.Grind.{flat_map-append}
 use Rattle.cert.specs.Certificate.{Certificate}
 use Rattle.cert.specs.declared.fault.CertRule.{CertRule}
-use Rattle.path_profiles.specs.InProfile.{certificate_under}
+use Rattle.path.specs.InProfile.{certificate_in}
 use Rattle.statements_facts.specs.declared.profile.Profile.{Profile}
 use Rattle.der.specs.declared.fault.Fault.{Fault}
 use Rattle.der.specs.declared.fault.Fault.TheVariants.{Refused as Breaks, Memory}
@@ -55,7 +55,7 @@ part_of {V = V} text values i =
 
 pub texts_more : (profile : Profile) (values others : List (List ℕ)) (first second : List Certificate) → AreTexts profile values first → AreTexts profile others second → AreTexts profile (values ++ others) (first ++ second)
 texts_more profile values others first second are too =
-    map-append (certificate_under profile) values others ∙ ap (λ (xs : List (Result Certificate (CertRule × ℕ))). xs ++ map (certificate_under profile) others) are ∙ ap (λ (xs : List (Result Certificate (CertRule × ℕ))). map Ok first ++ xs) too ∙ sym (map-append Ok first second)
+    map-append (certificate_in profile) values others ∙ ap (λ (xs : List (Result Certificate (CertRule × ℕ))). xs ++ map (certificate_in profile) others) are ∙ ap (λ (xs : List (Result Certificate (CertRule × ℕ))). map Ok first ++ xs) too ∙ sym (map-append Ok first second)
 
 pub place_more : (values : List (List ℕ)) (value : List ℕ) → length (joined (values ++ value ∷ [])) ≡ length (joined values) + length value
 place_more values value =

@@ -2,9 +2,9 @@
 use Rattle.std.proofs.Common.{◌≡◌, ◌<◌, ◌+◌, ℕ, suc, Bor, List, [], ◌∷◌, ◌++◌, Option, Some, None, length, map, take, drop, get_or, refl, sym, ap, ◌∙◌, subst, inl, inr, append_assoc, append-nil, drop-cons}
 use Rattle.std.proofs.lemmas.List.{take-append-drop, take_more}
 use Rattle.cert.specs.Certificate.{Certificate}
-use Rattle.path_profiles.specs.InProfile.{certificate_under}
+use Rattle.path.specs.InProfile.{certificate_in}
 use Rattle.statements_facts.specs.declared.profile.Profile.{Profile}
-use Rattle.cli_failures.specs.Failures.{Holding, IsJust, IsNoCertificateUnder, IsUnread}
+use Rattle.cli_failures.specs.Failures.{Holding, IsJust, IsNoCertificateIn, IsUnread}
 use Rattle.cli_failures.specs.declared.failure.Failure.{Failure}
 use Rattle.cli_failures.specs.declared.failure.Failure.TheVariants.{Refused, NoCertificate, NoRevocationList, NoResponse, NotGenuine, BadLine, BadTime, BadPurpose, BadPolicy, BadName, BadTopic, Unreadable, Unwritable, StoreFailed, NoMemory, Shut, NoInput}
 use Rattle.cli_operands.specs.CertificateValues.{AreCertificateValues, EndBehind, IsFailureAmong}
@@ -96,7 +96,7 @@ unread_on profile most holds file Unwritable fails = absurd fails
 unread_on profile most holds file (StoreFailed why) fails = absurd fails
 unread_on profile most holds file NoMemory fails = tt
 
-pub unread_certificate : (profile : Profile) (holds : Holding) (file : List ℕ) (failure : Failure) → IsUnread holds file failure → IsNoCertificateUnder profile holds file failure
+pub unread_certificate : (profile : Profile) (holds : Holding) (file : List ℕ) (failure : Failure) → IsUnread holds file failure → IsNoCertificateIn profile holds file failure
 unread_certificate profile holds file (Refused named fault) fails = absurd fails
 unread_certificate profile holds file (NoCertificate named rule at) fails = absurd fails
 unread_certificate profile holds file (NoRevocationList named rule at) fails = absurd fails
@@ -115,9 +115,9 @@ unread_certificate profile holds file Unwritable fails = absurd fails
 unread_certificate profile holds file (StoreFailed why) fails = absurd fails
 unread_certificate profile holds file NoMemory fails = tt
 
-pub no_certificate : (profile at : Profile) (holds : Holding) (octets file : List ℕ) (failure : Failure) → holds.has file (Some octets) → IsNoCertificateUnder profile (IsJust at octets) file failure → IsNoCertificateUnder profile holds file failure
+pub no_certificate : (profile at : Profile) (holds : Holding) (octets file : List ℕ) (failure : Failure) → holds.has file (Some octets) → IsNoCertificateIn profile (IsJust at octets) file failure → IsNoCertificateIn profile holds file failure
 no_certificate profile at holds octets file (Refused named fault) held fails = absurd fails
-no_certificate profile at holds octets file (NoCertificate named rule place) held (same, (text, is, refused)) = (same, (octets, held, let one : text ≡ octets = cc in ap (certificate_under profile) (sym one) ∙ refused))
+no_certificate profile at holds octets file (NoCertificate named rule place) held (same, (text, is, refused)) = (same, (octets, held, let one : text ≡ octets = cc in ap (certificate_in profile) (sym one) ∙ refused))
 no_certificate profile at holds octets file (NoRevocationList named rule place) held fails = absurd fails
 no_certificate profile at holds octets file (NoResponse named rule place) held fails = absurd fails
 no_certificate profile at holds octets file (NotGenuine named fault) held fails = absurd fails

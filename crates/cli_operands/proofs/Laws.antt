@@ -2,14 +2,15 @@
 use Rattle.std.proofs.Common.{◌≡◌, ◌<◌, ◌∙◌, ◌∷◌, ◌++◌, [], ℕ, List, Option, Ok, ap, arith, inl, inr, length, map, reverse, subst, sym}
 use Rattle.cert.specs.Certificate.{Certificate, seen_certificate}
 use Rattle.path.specs.Query.{Query}
+use Rattle.path.specs.declared.options.Options.{Options}
 use Rattle.path_issuers.specs.Search.{Candidate, IsCandidate, Search}
 use Rattle.cli_answers.specs.SearchText.{Place}
 use Rattle.cli_words.specs.QueryTexts.{QueryTexts}
 use Rattle.cli_words.specs.SearchTexts.{SearchTexts}
-use Rattle.path_profiles.specs.InProfile.{certificate_under}
+use Rattle.path.specs.InProfile.{certificate_in}
 use Rattle.statements_facts.specs.declared.profile.Profile.{Profile}
 use Rattle.statements_facts.specs.declared.profile.Profile.TheVariants.{Stated}
-use Rattle.cli_failures.specs.Failures.{Holding, IsJust, IsNoCertificate, IsNoCertificateUnder}
+use Rattle.cli_failures.specs.Failures.{Holding, IsJust, IsNoCertificate, IsNoCertificateIn}
 use Rattle.cli_failures.specs.declared.failure.Failure.{Failure}
 use Rattle.cli_operands.specs.Asked.{AreTerms, Asks, HaveTerms, IsFailureOfCertificates, IsPurposeOf, MakeTerms, NameTerms, purpose_contents}
 use Rattle.cli_operands.specs.FilePlaces.{StandsIfThere}
@@ -45,6 +46,7 @@ pub ask : (holds : Holding) (texts : QueryTexts) (terms : Terms) (it : Operands)
 ask holds texts terms it query named are of = record {
   moment = subst (λ moment. IsMoment texts.moment moment) (sym of.moment) named.moment;
   purpose = subst (λ purpose. IsPurposeOf texts.purpose purpose) (sym of.purpose) named.purpose;
+  options = of.options ∙ are.options;
   anchor = (it.anchor.items, are.anchor, of.anchor_is);
   path = hold_path holds.profile most_of_path holds texts.files it.path.files.items it.path.unread query.certificates are.path of.all of.path_is;
 }
@@ -78,9 +80,9 @@ refuse_with_policies holds texts terms it failure named are (inr ((query, is), m
 -- ---- searches
 
 -- the target is read in the same profile
-target_in : (holds : Holding) (texts : SearchTexts) (it : SearchOperands) (target : Certificate) → AreSearchOperands holds texts it → certificate_under it.profile it.target.items ≡ Ok target
-    → certificate_under holds.profile it.target.items ≡ Ok target
-target_in holds texts it target are is = subst (λ (in_profile : Profile). certificate_under in_profile it.target.items ≡ Ok target) are.profile is
+target_in : (holds : Holding) (texts : SearchTexts) (it : SearchOperands) (target : Certificate) → AreSearchOperands holds texts it → certificate_in it.profile it.target.items ≡ Ok target
+    → certificate_in holds.profile it.target.items ≡ Ok target
+target_in holds texts it target are is = subst (λ (in_profile : Profile). certificate_in in_profile it.target.items ≡ Ok target) are.profile is
 
 -- the certificates that they have are those that the files hold
 pub hold_searched : (holds : Holding) (texts : SearchTexts) (terms : Terms) (it : SearchOperands) (read : SearchCertificates) (search : Search)
@@ -93,21 +95,26 @@ hold_searched holds texts terms it read search are of is = record {
       (hold_path holds.profile most_of_search holds texts.among it.among.files.items it.among.unread (map seen_certificate read.bag.items) are.among of.all_of_bag of.bag_is);
 }
 
+-- the options of a profile
+abbrev options_in : Profile → Options
+options_in profile = record { profile = profile }
+
 -- the search on these terms among them
 pub ask_to_find : (holds : Holding) (texts : SearchTexts) (terms : Terms) (it : SearchOperands) (read : SearchCertificates) (search : Search)
     → AreTerms texts.moment texts.purpose terms → AreSearchOperands holds texts it → AreCertificatesOfSearch it read → IsSearchFor read terms search → AsksToFind holds texts search
 ask_to_find holds texts terms it read search named are of is = record {
   moment = subst (λ moment. IsMoment texts.moment moment) (sym is.moment) named.moment;
   purpose = subst (λ purpose. IsPurposeOf texts.purpose purpose) (sym is.purpose) named.purpose;
+  options = is.options ∙ of.options_are ∙ ap options_in are.profile;
   held = hold_searched holds texts terms it read search are of is;
 }
 
 -- a refusal of one of them
 pub refuse_search : (holds : Holding) (texts : SearchTexts) (it : SearchOperands) (failure : Failure) → AreSearchOperands holds texts it → IsRefusalInSearch it failure → IsFailureOfSearched holds texts failure
 refuse_search holds texts it failure are (inl fails) =
-    let told = subst (λ (in_profile : Profile). IsNoCertificateUnder in_profile (IsJust it.profile it.target.items) it.target_file.now failure) are.profile fails in
+    let told = subst (λ (in_profile : Profile). IsNoCertificateIn in_profile (IsJust it.profile it.target.items) it.target_file.now failure) are.profile fails in
     inl (no_certificate holds.profile it.profile holds it.target.items texts.target failure are.target
-    (subst (λ (file : List ℕ). IsNoCertificateUnder holds.profile (IsJust it.profile it.target.items) file failure) are.target_file told))
+    (subst (λ (file : List ℕ). IsNoCertificateIn holds.profile (IsJust it.profile it.target.items) file failure) are.target_file told))
 refuse_search holds texts it failure are (inr ((target, is), inl fails)) =
     inr ((target, (it.target.items, are.target, target_in holds texts it target are is)), inl (fails_of Stated most_of_search (omega arith) holds texts.anchors it.anchors.files.items it.anchors.unread failure are.anchors fails))
 refuse_search holds texts it failure are (inr ((target, is), inr ((anchors, of, all), fails))) =

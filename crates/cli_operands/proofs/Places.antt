@@ -6,7 +6,7 @@ use Rattle.std.proofs.lemmas.List.{length-append, length-map}
 use Rattle.std.proofs.lemmas.List.Sums.{sum_by-cons}
 use Rattle.cert.specs.Certificate.{Certificate}
 use Rattle.cert.specs.declared.fault.CertRule.{CertRule}
-use Rattle.path_profiles.specs.InProfile.{certificate_under}
+use Rattle.path.specs.InProfile.{certificate_in}
 use Rattle.statements_facts.specs.declared.profile.Profile.{Profile}
 use Rattle.cli_answers.specs.SearchText.{Place}
 use Rattle.cli_failures.specs.Failures.{Holding}
@@ -47,7 +47,7 @@ reversed Small numbers small = reversed_onto Small numbers [] small tt
 -- ---- as many certificates as values
 
 count_in : (it : PathFile) (certificates : List Certificate) → AreCertificatesIn it certificates → length certificates ≡ value_count it
-count_in it certificates are = omega (arith, it.values.ok, length-map it.values.items (λ (value : Vec ℕ Global). value.items), length-map (values_read it) (certificate_under it.profile), length-map {B = Result Certificate (CertRule × ℕ)} certificates Ok, ap length are.each)
+count_in it certificates are = omega (arith, it.values.ok, length-map it.values.items (λ (value : Vec ℕ Global). value.items), length-map (values_read it) (certificate_in it.profile), length-map {B = Result Certificate (CertRule × ℕ)} certificates Ok, ap length are.each)
 
 pub count_of : (files : List PathFile) (certificates : List Certificate) → AreCertificatesOf files certificates → length certificates ≡ values_in files
 count_of [] certificates none = ap length none

@@ -108,6 +108,7 @@ IsFailureOfCertificates holds texts =
 pub record Asks (holds : Holding) (texts : QueryTexts) (query : Query) : Type 0 where
   pub moment : IsMoment texts.moment query.moment
   pub purpose : IsPurposeOf texts.purpose query.purpose
+  pub options : query.options ≡ record { profile = holds.profile }
   pub anchor : HoldsCertificate holds texts.anchor query.anchor
   pub path : HoldPath holds.profile most_of_path holds texts.files query.certificates
 

@@ -2,7 +2,7 @@
 use Rattle.std.specs.Prelude.{◌≡◌, ◌+◌, ◌<◌, ◌≤◌, ◌⊎◌, ℕ, List, [], ◌∷◌, ◌++◌, length, Option, Some, None, Err}
 use Rattle.cert.specs.Certificate.{Certificate}
 use Rattle.cert.specs.declared.fault.CertRule.{CertRule}
-use Rattle.path_profiles.specs.InProfile.{certificate_under}
+use Rattle.path.specs.InProfile.{certificate_in}
 use Rattle.statements_facts.specs.declared.profile.Profile.{Profile}
 use Rattle.der.specs.FirstFault.{FirstFaultIn}
 use Rattle.der.specs.declared.fault.Fault.TheVariants.{Refused as Breaks, Memory}
@@ -20,7 +20,7 @@ AreCertificateValues profile values = (certificates : List Certificate) × AreTe
 -- a failure on the value that starts at that place of the file
 abbrev pub IsFailureAt : Profile → List ℕ → ℕ → List ℕ → Failure → Type 0
 IsFailureAt profile value start file (NoCertificate named rule at) =
-    (named.now ≡ file) × ((offset : ℕ) × (certificate_under profile value ≡ Err (rule, offset)) × (at ≡ start + offset))
+    (named.now ≡ file) × ((offset : ℕ) × (certificate_in profile value ≡ Err (rule, offset)) × (at ≡ start + offset))
 IsFailureAt profile value start file failure = failure ≡ NoMemory
 
 -- The first of the values that is no certificate, and its first fault. The place counts from the first of them.
@@ -31,7 +31,7 @@ pub record IsOtherAmong (profile : Profile) (values : List (List ℕ)) (rule : C
   pub values_are : values ≡ before ++ value ∷ behind
   pub read : AreCertificateValues profile before
   pub offset : ℕ
-  pub refused : certificate_under profile value ≡ Err (rule, offset)
+  pub refused : certificate_in profile value ≡ Err (rule, offset)
   pub at_is : at ≡ length (joined before) + offset
 
 abbrev pub IsFailureAmong : Profile → List (List ℕ) → List ℕ → Failure → Type 0

@@ -15,6 +15,7 @@ use Rattle.cli_operands.specs.declared.terms.Terms.{Terms}
 
 -- This is what the operands say. Of certificates it has the octets.
 pub record AreOperands (holds : Holding) (texts : QueryTexts) (it : Operands) : Type 0 where
+  pub options : it.options ≡ record { profile = holds.profile }
   pub anchor_file : it.anchor_file.now ≡ texts.anchor
   pub anchor : holds.has texts.anchor (Some it.anchor.items)
   pub path : AreFilesRead holds.profile most_of_path holds texts.files it.path.files.items it.path.unread
@@ -26,6 +27,7 @@ pub record IsQueryOf (it : Operands) (terms : Terms) (query : Query) : Type 0 wh
   pub all : it.path.unread ≡ None
   pub moment : query.moment ≡ terms.moment
   pub purpose : query.purpose ≡ purpose_contents terms
+  pub options : query.options ≡ it.options
 
 -- the first certificate that is refused, or the file that was not read
 abbrev pub IsRefusalIn : Operands → Failure → Type 0

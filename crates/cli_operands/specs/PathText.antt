@@ -2,7 +2,7 @@
 use Rattle.std.specs.Prelude.{◌≡◌, ◌≢◌, ◌⊎◌, ◌<◌, ◌≤◌, ◌+◌, ℕ, List, [], ◌∷◌, ◌++◌, length, map, Some, Ok, Err}
 use Rattle.cert.specs.Certificate.{Certificate}
 use Rattle.cert.specs.declared.fault.CertRule.{CertRule}
-use Rattle.path_profiles.specs.InProfile.{certificate_under}
+use Rattle.path.specs.InProfile.{certificate_in}
 use Rattle.statements_facts.specs.declared.profile.Profile.{Profile}
 use Rattle.der.specs.FirstFault.{FirstFaultIn}
 use Rattle.der.specs.declared.fault.Fault.{Fault}
@@ -33,7 +33,7 @@ BeginsWithValues = StartsWithValues longest
 
 -- the texts are those of the certificates, in order, each read in the profile
 abbrev pub AreTexts : Profile → List (List ℕ) → List Certificate → Type 0
-AreTexts profile texts certificates = map (certificate_under profile) texts ≡ map Ok certificates
+AreTexts profile texts certificates = map (certificate_in profile) texts ≡ map Ok certificates
 
 -- the octets are the certificates, each the value of one
 pub record ArePathCertificates (profile : Profile) (most : ℕ) (octets : List ℕ) (certificates : List Certificate) : Type 0 where
@@ -75,7 +75,7 @@ pub record HoldsOther (profile : Profile) (most : ℕ) (octets : List ℕ) (rule
   pub begin : BeginWithCertificates profile most octets before (text ++ left)
   pub value : BeginsWithValues (text ++ left) (text ∷ []) left
   pub offset : ℕ
-  pub refused : certificate_under profile text ≡ Err (rule, offset)
+  pub refused : certificate_in profile text ≡ Err (rule, offset)
   pub at_is : at ≡ length (joined before) + offset
 
 -- What is left behind certificates begins with no value, or nothing is there at all.

@@ -1,12 +1,12 @@
 -- What a search is asked for by the words of a command line, and what is wrong with the certificates that they name.
 use Rattle.std.specs.Prelude.{◌≡◌, ◌≤◌, ◌+◌, ℕ, List, ◌∷◌, ◌++◌, Some, None, Ok, length, map}
 use Rattle.cert.specs.Certificate.{Certificate, seen_certificate}
-use Rattle.path_profiles.specs.InProfile.{certificate_under}
+use Rattle.path.specs.InProfile.{certificate_in}
 use Rattle.statements_facts.specs.declared.profile.Profile.{Profile}
 use Rattle.statements_facts.specs.declared.profile.Profile.TheVariants.{Stated}
 use Rattle.path_issuers.specs.Search.{Candidate, Search}
 use Rattle.cli_answers.specs.SearchText.{Place}
-use Rattle.cli_failures.specs.Failures.{Holding, HoldsCertificateUnder, IsJust, IsNoCertificateUnder}
+use Rattle.cli_failures.specs.Failures.{Holding, HoldsCertificateIn, IsJust, IsNoCertificateIn}
 use Rattle.cli_failures.specs.declared.failure.Failure.{Failure}
 use Rattle.cli_words.specs.SearchTexts.{SearchTexts}
 use Rattle.cli_operands.specs.Asked.{IsPurposeOf, purpose_contents}
@@ -21,7 +21,7 @@ use Rattle.cli_operands.specs.declared.terms.Terms.{Terms}
 
 -- The files that the texts name hold the certificates of this search. Of anchors the name and the key count, and no points.
 pub record HoldSearched (holds : Holding) (texts : SearchTexts) (search : Search) : Type 0 where
-  pub target : HoldsCertificateUnder holds.profile holds texts.target search.target
+  pub target : HoldsCertificateIn holds.profile holds texts.target search.target
   pub anchors : HoldPath Stated most_of_search holds texts.anchors search.anchors
   pub bag : HoldPath holds.profile most_of_search holds texts.among search.bag
 
@@ -29,6 +29,7 @@ pub record HoldSearched (holds : Holding) (texts : SearchTexts) (search : Search
 pub record AsksToFind (holds : Holding) (texts : SearchTexts) (search : Search) : Type 0 where
   pub moment : IsMoment texts.moment search.moment
   pub purpose : IsPurposeOf texts.purpose search.purpose
+  pub options : search.options ≡ record { profile = holds.profile }
   pub held : HoldSearched holds texts search
 
 -- the files hold certificates, read in the profile
@@ -40,8 +41,8 @@ HoldSome profile holds files =
 -- certificates that may stand between.
 abbrev pub IsFailureOfSearched : Holding → SearchTexts → Failure → Type 0
 IsFailureOfSearched holds texts =
-    FailsFirst (IsNoCertificateUnder holds.profile holds texts.target)
-    ((target : Certificate) × HoldsCertificateUnder holds.profile holds texts.target target)
+    FailsFirst (IsNoCertificateIn holds.profile holds texts.target)
+    ((target : Certificate) × HoldsCertificateIn holds.profile holds texts.target target)
     (FailsFirst (IsFailureOfPath Stated most_of_search holds texts.anchors)
     (HoldSome Stated holds texts.anchors)
     (IsFailureOfPath holds.profile most_of_search holds texts.among))
@@ -80,12 +81,13 @@ pub record AreSearchOperands (holds : Holding) (texts : SearchTexts) (it : Searc
 
 -- the certificates whose octets they have
 pub record AreCertificatesOfSearch (it : SearchOperands) (read : SearchCertificates) : Type 0 where
-  pub target_is : certificate_under it.profile it.target.items ≡ Ok (seen_certificate read.target)
+  pub target_is : certificate_in it.profile it.target.items ≡ Ok (seen_certificate read.target)
   pub anchors_are :
       AreCertificatesOf it.anchors.files.items (map seen_certificate read.anchors.items)
   pub all_anchors : it.anchors.unread ≡ None
   pub bag_is : AreCertificatesOf it.among.files.items (map seen_certificate read.bag.items)
   pub all_of_bag : it.among.unread ≡ None
+  pub options_are : read.options ≡ record { profile = it.profile }
 
 -- the search among the certificates, on these terms
 pub record IsSearchFor (read : SearchCertificates) (terms : Terms) (search : Search) : Type 0 where
@@ -94,12 +96,13 @@ pub record IsSearchFor (read : SearchCertificates) (terms : Terms) (search : Sea
   pub bag : search.bag ≡ map seen_certificate read.bag.items
   pub moment : search.moment ≡ terms.moment
   pub purpose : search.purpose ≡ purpose_contents terms
+  pub options : search.options ≡ read.options
 
 -- the first certificate that is refused, or the file that was not read
 abbrev pub IsRefusalInSearch : SearchOperands → Failure → Type 0
 IsRefusalInSearch it =
-    FailsFirst (IsNoCertificateUnder it.profile (IsJust it.profile it.target.items) it.target_file.now)
-    ((target : Certificate) × (certificate_under it.profile it.target.items ≡ Ok target))
+    FailsFirst (IsNoCertificateIn it.profile (IsJust it.profile it.target.items) it.target_file.now)
+    ((target : Certificate) × (certificate_in it.profile it.target.items ≡ Ok target))
     (FailsFirst (IsFailureOf it.anchors.files.items it.anchors.unread)
     ((anchors : List Certificate) × AreCertificatesOf it.anchors.files.items anchors
     × (it.anchors.unread ≡ None))

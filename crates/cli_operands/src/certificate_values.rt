@@ -1,21 +1,21 @@
 //! The certificates that the values of a file are.
 ghost use Rattle.std.specs.Prelude.{◌≡◌, ◌<◌, ◌^◌, length, map, IfErr, IfOk, Ok};
 ghost use Rattle.cert.specs.Certificate.{seen_certificate};
-ghost use Rattle.path_profiles.specs.InProfile.{certificate_under};
+ghost use Rattle.path.specs.InProfile.{certificate_in};
 ghost use Rattle.der_stream.specs.Sequence.{joined};
 ghost use Rattle.cli_operands.specs.CertificateValues.{IsFailureAmong, IsFailureAt};
 ghost use Rattle.cli_operands.specs.PathText.{AreTexts};
 
 use cert::{CertFault, Certificate};
 use cli_failures::Failure;
-use path_profiles::read_certificate_under;
+use path::read_certificate;
 use statements_facts::Profile;
 use std::alloc::Global;
 
 /// The certificate that the value is, which starts at this place of the file.
 ///
 /// A certificate is refused at an octet of its text or at its end, so the offset in the file cannot overflow.
-fn read_certificate<'q, 'a>(
+fn certificate_at<'q, 'a>(
     alloc: Global,
     profile: Profile,
     file: &'a str,
@@ -23,10 +23,10 @@ fn read_certificate<'q, 'a>(
     start: usize,
 ) -> Result<Certificate<'q>, Failure<'a>>
     ensures reads { IfOk result (λ read.
-        certificate_under profile value.now ≡ Ok (seen_certificate read)) }
+        certificate_in profile value.now ≡ Ok (seen_certificate read)) }
     ensures fails { IfErr result (IsFailureAt profile value.now start file.entry.now) }
 {
-    match read_certificate_under(alloc, profile, value) {
+    match read_certificate(alloc, profile, value) {
         Ok(read) => Ok(read),
         Err(CertFault::Memory) => Err(Failure::NoMemory),
         Err(CertFault::Refused(rule, offset)) => match start.checked_add(offset) {
@@ -52,7 +52,7 @@ pub(crate) fn read_certificates<'q, 'a>(
     let mut certificates = Vec::new(alloc);
     let mut start = 0;
     for value in values {
-        let certificate = read_certificate(alloc, profile, file, value, start)?;
+        let certificate = certificate_at(alloc, profile, file, value, start)?;
         if certificates.push(certificate).is_err() {
             return Err(Failure::NoMemory);
         }

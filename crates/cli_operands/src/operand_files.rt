@@ -10,7 +10,7 @@ use crate::path_files::{certificates_of, read_files};
 use crate::terms::Terms;
 use cli_failures::{Extent, Failure, Source, read_certificate};
 use cli_words::QueryWords;
-use path::Query;
+use path::{Options, Query};
 use std::alloc::Global;
 
 // One more than a path may have, so that a path that is too long is reported as such.
@@ -19,6 +19,7 @@ const MOST_OF_PATH: u32 = 129;
 /// The octets of the files that the words of a query name.
 #[derive(Drop)]
 pub struct Operands<'a> {
+    options: Options,
     anchor_file: &'a str,
     anchor: Vec<u8>,
     pub(crate) path: PathFiles<'a>,
@@ -36,15 +37,11 @@ pub fn read_operands<'a, S: Source>(
     ensures fails { IfErr result
         (IsFailureOfCertificates (S.holds source.now) (seen_words words.now)) }
 {
+    let profile = source.profile();
     let anchor = source.octets_of(words.anchor, Extent::Value)?;
-    let path = read_files(
-        source,
-        alloc,
-        source.profile(),
-        words.files.as_slice(),
-        MOST_OF_PATH,
-    );
+    let path = read_files(source, alloc, profile, words.files.as_slice(), MOST_OF_PATH);
     Ok(Operands {
+        options: Options { profile },
         anchor_file: words.anchor,
         anchor,
         path,
@@ -65,6 +62,7 @@ impl<'a> Operands<'a> {
             path,
             moment: terms.moment,
             purpose: terms.purpose.as_deref(),
+            options: self.options,
         })
     }
 }

@@ -13,8 +13,9 @@ use crate::path_files::{certificates_of, read_files};
 use crate::terms::Terms;
 use cert::Certificate;
 use cli_answers::FilePlace;
-use cli_failures::{Extent, Failure, Source, read_certificate_under};
+use cli_failures::{Extent, Failure, Source, read_certificate_in};
 use cli_words::SearchWords;
+use path::Options;
 use path_issuers::Search;
 use path_search::Candidate;
 use statements_facts::Profile;
@@ -40,6 +41,8 @@ pub struct SearchCertificates<'q> {
     pub bag: Vec<Certificate<'q>>,
     /// The one that is asked about.
     pub target: Certificate<'q>,
+    /// What is asked for besides.
+    pub options: Options,
 }
 
 /// Reads the target's file, the files of the anchors, and those of the certificates that may stand between, in this order. Only a target
@@ -82,13 +85,16 @@ impl<'a> SearchOperands<'a> {
         ensures fails { IfErr result (IsRefusalInSearch self.now) }
     {
         let octets = self.target.as_slice();
-        let target = read_certificate_under(alloc, self.profile, self.target_file, octets)?;
+        let target = read_certificate_in(alloc, self.profile, self.target_file, octets)?;
         let anchors = certificates_of(alloc, &self.anchors)?;
         let bag = certificates_of(alloc, &self.among)?;
         Ok(SearchCertificates {
             anchors,
             bag,
             target,
+            options: Options {
+                profile: self.profile,
+            },
         })
     }
 
@@ -127,6 +133,7 @@ impl<'q> SearchCertificates<'q> {
             target: &self.target,
             moment: terms.moment,
             purpose: terms.purpose.as_deref(),
+            options: self.options,
         }
     }
 }

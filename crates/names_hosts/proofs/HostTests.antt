@@ -1,5 +1,6 @@
 -- The tests of hosts, and of the bases of constraints on them, are exact.
-use Rattle.std.proofs.Common.{◌≡◌, ℕ, List, [], ◌∷◌, ◌++◌, length, Bool, true, false, not, nat_lt, nat_le, ◌&&◌, Some, refl, ◌∙◌, ap, subst, inl, inr}
+use Rattle.std.proofs.Common.{◌≡◌, ℕ, List, [], ◌∷◌, ◌++◌, length, Bool, true, false, not, nat_lt, nat_le, ◌&&◌, Some, refl, sym, ◌∙◌, ap, subst, inl, inr}
+use Rattle.std.specs.Prelude.{◌↔◌, IsTrue}
 use Rattle.std.specs.Bool.{then_some}
 use Rattle.std.specs.List.{AllPass, list_all, sum_by}
 use Rattle.std.specs.Char.{is_ascii_digit}
@@ -86,6 +87,16 @@ host_test_is_exact text =
           (All-weaker HasLabelLength (λ label. has_label_length label ≡ true) label_length_test (dotted_parts text) h.labels))
           (and_from short (not number) (le-leb (length text) 253 h.short) (not_from_false number (no_number_test text h.no_number)))),
     )
+
+pub same_tests : (s t : Bool) → (s ≡ true → t ≡ true) → (t ≡ true → s ≡ true) → s ≡ t
+same_tests true t f g = sym (f refl)
+same_tests false true f g = g refl
+same_tests false false f g = refl
+
+pub host_decided : (text : List ℕ) (b : Bool) → (IsTrue b ↔ IsHost text) → b ≡ is_host text
+host_decided text b e =
+    let exact = host_test_is_exact text in
+    same_tests b (is_host text) (λ t. exact.1 (e.0 t)) (λ t. e.1 (exact.0 t))
 
 pub no_empty_host : is_host [] ≡ true → ⊥
 unfolding is_host

@@ -44,7 +44,7 @@ unfolding without_final_dot
 no_dot_dropped text f = ap (λ (b : Bool). if b then take (length text - 1) text else text) f
 
 -- labels are the same just if the folded octets are
-joined_labels : (text : List ℕ) → join_with_byte 46 (labels text) ≡ folded text
+pub joined_labels : (text : List ℕ) → join_with_byte 46 (labels text) ≡ folded text
 joined_labels text = join_with_byte-slice_split 46 (folded text)
 
 pub same_folded : (a b : List ℕ) → IsSameHost a b → folded a ≡ folded b

@@ -11,3 +11,7 @@ mod Search
 mod HostOrder
 mod HostMembers
 mod MailMembers
+mod LastSplits
+mod LocalParts
+mod FullNames
+mod Literals

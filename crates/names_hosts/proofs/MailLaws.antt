@@ -1,57 +1,10 @@
 -- The laws of mail addresses and of bases on them.
-use Rattle.std.proofs.Common.{◌≡◌, ℕ, List, [], ◌∷◌, length, get_or, drop, false, refl, sym, ◌∙◌, ap, subst, inl, inr, arith, append-nil}
-use Rattle.std.proofs.lemmas.List.Elements.{All-cons}
+use Rattle.std.proofs.Common.{◌≡◌, ℕ, List, [], ◌∷◌, get_or, refl, sym, ◌∙◌, ap, subst, inl, inr, arith}
 use Rattle.names.specs.Dns.{labels, EndsInMore}
-use Rattle.names_identity.specs.Host.{is_host_octet}
-use Rattle.names_identity.specs.Mailbox.{IsMailbox, is_local_octet}
-use Rattle.names_hosts.specs.Hosts.{HostNames, one_host, hosts_below, IsSameHost, IsAmongHosts, AreHostsOf}
+use Rattle.names_hosts.specs.Hosts.{HostNames, one_host, hosts_below, IsSameHost, IsAmongHosts}
 use Rattle.names_hosts.specs.Mail.{MailText, MailNames, one_mailbox, mail_at, IsSameMailbox, IsAmongMail, IsMailInside}
-use Rattle.names_hosts.specs.Uri.{is_one_of, HasNone, IsCut}
-use Rattle.names_hosts.specs.Laws.{MailNameIsOne, MailBaseIsOne, MailInsideIsExact, SharedMailIsNested}
-use Rattle.names_hosts.proofs.HostLaws.{host_base_is_one, hosts_inside_is_exact, shared_hosts_are_nested, a_host}
-use Rattle.names_hosts.proofs.UriTexts.{none_of, one_cut}
-
--- the at sign cuts a mail address
-pub mail_cut : (text local host : List ℕ) → IsMailbox text local host → IsCut (64 ∷ []) text local (64 ∷ host)
-mail_cut text local host m = record {
-  joined = m.divided.joined;
-  none = none_of is_local_octet 64 local refl m.divided.octets;
-  stops = refl;
-}
-
-mail : List ℕ → List ℕ → MailText
-mail local host = record { local = local; host = host }
-
-same_text : (one other : MailText) → one.local ≡ other.local → one.host ≡ other.host → one ≡ other
-unfolding mail
-same_text one other e f = ap (λ (l : List ℕ). mail l one.host) e ∙ ap (λ (l : List ℕ). mail other.local l) f
-
-pub mail_name_is_one : MailNameIsOne
-mail_name_is_one text one other a b =
-    let same = one_cut (64 ∷ []) text one.local (64 ∷ one.host) other.local (64 ∷ other.host)
-    (mail_cut text one.local one.host a) (mail_cut text other.local other.host b) in
-    same_text one other same.0 (ap (drop 1) same.1)
-
--- no base is a mail address and hosts
-hosts_have_no_at : (base : List ℕ) (hosts : HostNames) → AreHostsOf base hosts → HasNone (64 ∷ []) base
-hosts_have_no_at base (one_host host) h = subst (HasNone (64 ∷ [])) (sym h.0) (none_of is_host_octet 64 host refl h.1.octets)
-hosts_have_no_at base (hosts_below domain) h =
-    subst (HasNone (64 ∷ [])) (sym h.0)
-    (All-cons (λ octet. is_one_of (64 ∷ []) octet ≡ false) 46 domain refl (none_of is_host_octet 64 domain refl h.1.octets))
-
-whole_cut : (base : List ℕ) → HasNone (64 ∷ []) base → IsCut (64 ∷ []) base base []
-whole_cut base none = record { joined = sym (append-nil base); none = none; stops = tt }
-
-pub not_both : (base local host : List ℕ) (hosts : HostNames) → IsMailbox base local host → AreHostsOf base hosts → ⊥
-not_both base local host hosts m h =
-    let same = one_cut (64 ∷ []) base local (64 ∷ host) base [] (mail_cut base local host m) (whole_cut base (hosts_have_no_at base hosts h)) in
-    omega (arith, ap length same.1)
-
-pub mail_base_is_one : MailBaseIsOne
-mail_base_is_one base (one_mailbox s) (one_mailbox t) a b = ap (λ (m : MailText). one_mailbox m) (mail_name_is_one base s t a b)
-mail_base_is_one base (one_mailbox s) (mail_at t) a b = absurd (not_both base s.local s.host t a b)
-mail_base_is_one base (mail_at s) (one_mailbox t) a b = absurd (not_both base t.local t.host s b a)
-mail_base_is_one base (mail_at s) (mail_at t) a b = ap (λ (h : HostNames). mail_at h) (host_base_is_one base s t a b)
+use Rattle.names_hosts.specs.Laws.{MailInsideIsExact, SharedMailIsNested}
+use Rattle.names_hosts.proofs.HostLaws.{hosts_inside_is_exact, shared_hosts_are_nested, a_host}
 
 -- hosts that are the same are among the same
 among_same : (x y : List ℕ) (t : HostNames) → IsSameHost x y → IsAmongHosts x t → IsAmongHosts y t

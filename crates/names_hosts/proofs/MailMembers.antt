@@ -5,10 +5,10 @@ use Rattle.std.specs.List.{list_any}
 use Rattle.std.specs.List.Sorted.{IsSortedBy, IsPermutation}
 use Rattle.std.specs.declared.cmp.Ordering.{Ordering}
 use Rattle.std.specs.declared.cmp.Ordering.TheVariants.{Less, Equal, Greater}
-use Rattle.std.specs.Ordering.{nat_cmp, ordering_then}
+use Rattle.std.specs.Ordering.{nat_cmp, is_eq, ordering_then}
 use Rattle.std.specs.Cmp.{IsTotalOrder}
 use Rattle.std.specs.Cmp.Lexicographic.{slice_cmp, pointwise}
-use Rattle.std.proofs.lemmas.Bool.{and_parts, and_from}
+use Rattle.std.proofs.lemmas.Bool.{and_parts, and_from, both_ways}
 use Rattle.std.proofs.lemmas.Cmp.{on_total, then_total, nat_list_cmp_total, tied_itself}
 use Rattle.std.proofs.lemmas.List.Sorted.{list_any-IsPermutation}
 use Rattle.std.proofs.lemmas.Map.Lookups.{exact_bytes}
@@ -16,10 +16,11 @@ use Rattle.names_hosts.specs.declared.mail.MailName.{MailName}
 use Rattle.names_hosts.specs.declared.mail.MailBase.{MailBase}
 use Rattle.names_hosts.specs.declared.mail.MailBase.TheVariants as B
 use Rattle.names_hosts.specs.declared.hosts.HostBase.{HostBase}
-use Rattle.names_hosts.specs.Hosts.{HostNames, host_names, AreHostsInside}
+use Rattle.names_hosts.specs.Hosts.{HostNames, host_names, IsSameHost, AreHostsInside}
 use Rattle.names_hosts.specs.Mail.{MailText, mail_text, MailNames, one_mailbox, mail_at, mail_names, IsSameMailbox, IsAmongMail, IsMailInside}
 use Rattle.names_hosts.specs.HostLists.{is_same_host, is_host_among, one_has_host, host_order, HasHost, HoldsHosts}
 use Rattle.names_hosts.specs.MailLists.{HasMail, HoldsMail, is_same_mailbox, is_mail_among, one_has_mail, mail_order, is_mail_before, is_one_mailbox, mailboxes_in, hosts_at, IsMailIndex}
+use Rattle.names_hosts.proofs.HostTests.{same_tests}
 use Rattle.names_hosts.proofs.HostOrder.{hosts_total, same_by, by_same, same_host_is_exact, equal_is_exact}
 use Rattle.names_hosts.proofs.HostMembers.{or_assoc, or_between, among_is_exact, any_is_exact, any_as, host_decided}
 
@@ -99,11 +100,6 @@ mail_among_is_exact name (mail_at hosts) = among_is_exact name.host hosts
 
 mail_decided : (bases : List MailNames) (name : MailText) (b : Bool) → b ≡ one_has_mail bases name → (IsTrue b ↔ HasMail bases name)
 mail_decided bases name b e = any_is_exact (λ base. is_mail_among name base) (λ base. IsAmongMail name base) (λ base. mail_among_is_exact name base) bases b e
-
-same_tests : (s t : Bool) → (s ≡ true → t ≡ true) → (t ≡ true → s ≡ true) → s ≡ t
-same_tests true t f g = sym (f refl)
-same_tests false true f g = g refl
-same_tests false false f g = refl
 
 -- the two answers of the code
 pub covered_here :
@@ -187,4 +183,25 @@ pub held_hosts :
 held_hosts all mailboxes hosts bases inner b index are e = (
   λ t. subst (Any (MailInside inner)) are (raised inner all (subst (Any (Inside inner)) index.kept (e.0 t))),
   λ a. e.1 (subst (Any (Inside inner)) (sym index.kept) (lowered inner all (subst (Any (MailInside inner)) (sym are) a))),
+)
+
+-- one mailbox, by the comparison of local parts
+is_equal : (o : Ordering) → is_eq o ≡ true → o ≡ Equal
+is_equal Less t = absurd cc
+is_equal Equal t = refl
+is_equal Greater t = absurd cc
+
+pub same_by_order :
+    (x y : MailText) (o : Ordering) (b : Bool) → o ≡ slice_cmp nat_cmp x.local y.local → is_eq o ≡ true →
+    (IsTrue b ↔ IsSameHost x.host y.host) → (IsTrue b ↔ IsSameMailbox x y)
+same_by_order x y o b e t h =
+    let locals = exact_bytes x.local y.local (sym e ∙ is_equal o t) in
+    (λ u. record { local = locals; host = h.0 u }, λ s. h.1 s.host)
+
+pub other_by_order :
+    (x y : MailText) (o : Ordering) (b : Bool) → o ≡ slice_cmp nat_cmp x.local y.local → is_eq o ≡ false → b ≡ false →
+    (IsTrue b ↔ IsSameMailbox x y)
+other_by_order x y o b e f none = (
+  λ u. absurd (both_ways b none u),
+  λ s. absurd (both_ways (is_eq o) f (ap is_eq (e ∙ same_locals x.local y.local (sym s.local)))),
 )

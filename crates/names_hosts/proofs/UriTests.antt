@@ -6,11 +6,11 @@ use Rattle.std.specs.List.{list_all, list_any}
 use Rattle.std.specs.Char.{is_ascii_digit, is_ascii_alphabetic}
 use Rattle.std.proofs.lemmas.Bool.{and_parts, and_from, eqb-true}
 use Rattle.std.proofs.lemmas.List.Sums.{AllPass-from_list_all, list_all-from_AllPass}
-use Rattle.names_hosts.specs.Hosts.{is_host}
-use Rattle.names_hosts.specs.Uri.{is_one_of, HasNone, IsCut, is_scheme_octet, IsScheme, authority_ends, IsBehindScheme, HasAuthority, is_user_octet, IsUserAt, IsBehindUser, IsHostAndPort, IsHostOfAuthority, IsHostOfUri, colon, at_sign, before_any, behind_any, is_scheme, behind_slashes, behind_scheme, behind_user, before_port, host_in, uri_host}
+use Rattle.names_hosts.specs.Uri.{is_one_of, HasNone, IsCut, is_scheme_octet, IsScheme, authority_ends, IsBehindScheme, HasAuthority, is_user_octet, IsUserAt, IsBehindUser, IsHostAndPort, IsHostOfAuthority, IsHostOfUri, colon, at_sign, before_any, behind_any, is_scheme, behind_slashes, behind_scheme, behind_user, is_fully_qualified, before_port, host_in, uri_host}
 use Rattle.names_hosts.specs.Laws.{UriHostIsExact}
-use Rattle.names_hosts.proofs.HostTests.{then_some_is, then_some_again, host_test_is_exact}
+use Rattle.names_hosts.proofs.HostTests.{then_some_is, then_some_again}
 use Rattle.names_hosts.proofs.UriTexts.{is_stop, scheme_has_no_colon, at_user, behind_at_sign, host_cut, rest_has_no_at}
+use Rattle.names_hosts.proofs.FullNames.{full_test}
 use Rattle.names_hosts.proofs.FirstCuts.{cases_cut, parts_of, parts_of_whole, front_of, has_one, has_none}
 
 -- a step behind another
@@ -145,36 +145,36 @@ port_from : (rest host : List ℕ) → before_port rest ≡ Some host → IsHost
 port_from rest host e =
     let front = before_any colon rest in
     let digits = behind_any colon rest in
-    let s = then_some_is (is_host front && list_all is_ascii_digit digits) front host e in
-    let a = and_parts (is_host front) (list_all is_ascii_digit digits) s.0 in
+    let s = then_some_is (is_fully_qualified front && list_all is_ascii_digit digits) front host e in
+    let a = and_parts (is_fully_qualified front) (list_all is_ascii_digit digits) s.0 in
     subst (IsHostAndPort rest) s.1 (elim (cases_cut colon rest) [
       | inl has ↦ record {
         port = 58 ∷ digits;
         joined = has.cut.joined ∙ ap (λ (c : ℕ). front ++ c ∷ digits) (is_stop 58 has.first has.cut.stops);
-        is_host = (host_test_is_exact front).0 a.0;
+        is_host = (full_test front).0 a.0;
         is_port = inr (record { port = digits; joined = refl; digits = AllPass-from_list_all is_ascii_digit digits a.1 });
       }
       | inr whole ↦ record {
         port = [];
         joined = sym whole.before ∙ sym (append-nil front);
-        is_host = (host_test_is_exact front).0 a.0;
+        is_host = (full_test front).0 a.0;
         is_port = inl refl;
       }
     ])
 
-ported : (rest host digits : List ℕ) → before_any colon rest ≡ host → behind_any colon rest ≡ digits → is_host host ≡ true
+ported : (rest host digits : List ℕ) → before_any colon rest ≡ host → behind_any colon rest ≡ digits → is_fully_qualified host ≡ true
     → list_all is_ascii_digit digits ≡ true → before_port rest ≡ Some host
 ported rest host digits e f t u =
     let front = before_any colon rest in
     let behind = behind_any colon rest in
-    then_some_again (is_host front && list_all is_ascii_digit behind) front
-    (and_from (is_host front) (list_all is_ascii_digit behind) (ap is_host e ∙ t) (ap (list_all is_ascii_digit) f ∙ u))
+    then_some_again (is_fully_qualified front && list_all is_ascii_digit behind) front
+    (and_from (is_fully_qualified front) (list_all is_ascii_digit behind) (ap is_fully_qualified e ∙ t) (ap (list_all is_ascii_digit) f ∙ u))
     ∙ ap (λ (l : List ℕ). Some l) e
 
 port_again : (rest host : List ℕ) → IsHostAndPort rest host → before_port rest ≡ Some host
 port_again rest host h =
     let cut = host_cut rest host h in
-    let t = (host_test_is_exact host).1 h.is_host in
+    let t = (full_test host).1 h.is_host in
     elim (h.is_port) [
       | inl none ↦
           let parts = parts_of_whole colon rest host (subst (λ (l : List ℕ). IsCut colon rest host l) none cut) in

@@ -63,7 +63,7 @@ one_cut ends text a x b y p q = same_cut ends a x b y (sym p.joined ∙ q.joined
 stop_at : (ends text : List ℕ) (at : ℕ) → at < length text → is_one_of ends (get_or text at 0) ≡ true → IsStop ends (drop at text)
 stop_at ends text at within t = subst (IsStop ends) (sym (drop_more text at 0 within)) t
 
-none_passes : (p : ℕ → Bool) (xs : List ℕ) → position p xs ≡ None → All (λ x. p x ≡ false) xs
+pub none_passes : (p : ℕ → Bool) (xs : List ℕ) → position p xs ≡ None → All (λ x. p x ≡ false) xs
 none_passes p xs h =
     let n = position_or_len p xs in
     elim (cases_Bool (nat_lt n (length xs))) [
@@ -155,7 +155,7 @@ behind_at_sign authority front more first octets cut = record {
 pub host_cut : (text host : List ℕ) (h : IsHostAndPort text host) → IsCut (58 ∷ []) text host h.port
 host_cut text host h = record {
   joined = h.joined;
-  none = none_of is_host_octet 58 host refl h.is_host.octets;
+  none = none_of is_host_octet 58 host refl h.is_host.is_host.octets;
   stops = elim (h.is_port) [
     | inl none ↦ subst (IsStop (58 ∷ [])) (sym none) tt
     | inr at ↦ subst (IsStop (58 ∷ [])) (sym at.joined) refl
@@ -169,7 +169,7 @@ port_cut text host front more h cut = one_cut (58 ∷ []) text front more host h
 
 pub rest_has_no_at : (text host : List ℕ) → IsHostAndPort text host → HasNone (64 ∷ []) text
 rest_has_no_at text host h =
-    let free : HasNone (64 ∷ []) host = none_of is_host_octet 64 host refl h.is_host.octets in
+    let free : HasNone (64 ∷ []) host = none_of is_host_octet 64 host refl h.is_host.is_host.octets in
     let port : HasNone (64 ∷ []) h.port = elim (h.is_port) [
       | inl none ↦ subst (HasNone (64 ∷ [])) (sym none) (λ k d below. absurd (omega arith))
       | inr at ↦ subst (HasNone (64 ∷ [])) (sym at.joined)

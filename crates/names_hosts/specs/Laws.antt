@@ -1,7 +1,7 @@
-use Rattle.std.specs.Prelude.{◌≡◌, ◌⊎◌, ◌↔◌, ℕ, List, Some, IsTrue}
+use Rattle.std.specs.Prelude.{◌≡◌, ◌⊎◌, ◌↔◌, ℕ, Bool, List, Some, IsTrue}
 use Rattle.names_identity.specs.Host.{IsHost}
 use Rattle.names_hosts.specs.Hosts.{HostNames, IsAmongHosts, AreHostsOf, AreHostsInside, is_host, host_base_of}
-use Rattle.names_hosts.specs.Mail.{MailText, MailNames, IsMailName, IsMailOf, IsAmongMail, IsMailInside, mail_of, mail_base_of}
+use Rattle.names_hosts.specs.Mail.{MailText, MailNames, IsAddressLiteral, IsMailName, IsMailOf, IsAmongMail, IsMailInside, mail_of, mail_base_of}
 use Rattle.names_hosts.specs.Uri.{IsHostOfUri, uri_host}
 
 -- a base says one thing
@@ -26,7 +26,7 @@ UriHostIsOne = (uri one other : List ℕ) → IsHostOfUri uri one → IsHostOfUr
 -- a text is one mail address
 abbrev pub MailNameIsOne : Type 0
 MailNameIsOne =
-    (text : List ℕ) (one other : MailText) → IsMailName text one → IsMailName text other → one ≡ other
+    (utf8 : Bool) (text : List ℕ) (one other : MailText) → IsMailName utf8 text one → IsMailName utf8 text other → one ≡ other
 
 -- a base says one thing
 abbrev pub MailBaseIsOne : Type 0
@@ -52,7 +52,12 @@ abbrev pub HostBaseIsExact : Type 0
 HostBaseIsExact = (base : List ℕ) (names : HostNames) → ((host_base_of base ≡ Some names) ↔ AreHostsOf base names)
 
 abbrev pub MailNameIsExact : Type 0
-MailNameIsExact = (text : List ℕ) (name : MailText) → ((mail_of text ≡ Some name) ↔ IsMailName text name)
+MailNameIsExact = (utf8 : Bool) (text : List ℕ) (name : MailText) → ((mail_of utf8 text ≡ Some name) ↔ IsMailName utf8 text name)
+
+-- an address literal is in no base but its own mailbox: it is none of the hosts of a base
+abbrev pub LiteralsAreAtNoHosts : Type 0
+LiteralsAreAtNoHosts =
+    (literal base : List ℕ) (names : HostNames) → IsAddressLiteral literal → AreHostsOf base names → ¬ IsAmongHosts literal names
 
 abbrev pub MailBaseIsExact : Type 0
 MailBaseIsExact = (base : List ℕ) (names : MailNames) → ((mail_base_of base ≡ Some names) ↔ IsMailOf base names)

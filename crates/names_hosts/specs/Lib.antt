@@ -1,9 +1,10 @@
+pub mod Splits
 pub mod Hosts
 pub mod Uri
+pub mod LocalPart
 pub mod Mail
 pub mod Laws
 pub mod HostLists
 pub mod MailLists
 pub use Rattle.names.specs.Dns
 pub use Rattle.names_identity.specs.Host
-pub use Rattle.names_identity.specs.Mailbox

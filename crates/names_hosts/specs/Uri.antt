@@ -1,11 +1,12 @@
 -- The host of a URI (RFC 3986, 3.1 and 3.2), to which the constraints on URIs apply (RFC 5280, 4.2.1.10).
-use Rattle.std.specs.Prelude.{◌≡◌, ◌⊎◌, ◌==◌, ◌||◌, ◌&&◌, ℕ, List, [], ◌∷◌, ◌++◌, Bool, false, true, IsTrue, Option, Some, None, if◌then◌else◌}
+use Rattle.std.specs.Prelude.{◌≡◌, ◌⊎◌, ◌==◌, ◌||◌, ◌&&◌, ℕ, List, [], ◌∷◌, ◌++◌, Bool, false, true, not, IsTrue, Option, Some, None, if◌then◌else◌}
 use Rattle.std.specs.Bool.{then_some}
 use Rattle.std.specs.Option.{option_and_then}
 use Rattle.std.specs.List.{All, AllPass, list_any, list_all, before_first, after_first}
 use Rattle.std.specs.Char.{is_ascii_alphabetic, is_ascii_alphanumeric, is_ascii_digit}
 use Rattle.names_identity.specs.Host.{IsHost}
 use Rattle.names_hosts.specs.Hosts.{HostNames, IsAmongHosts, is_host}
+use Rattle.names_hosts.specs.Splits.{IsLastSplit, last_split}
 
 -- the octet is one of these
 abbrev pub is_one_of : List ℕ → ℕ → Bool
@@ -86,11 +87,25 @@ pub record IsBehindUser (authority rest : List ℕ) : Type 0 where
   pub joined : authority ≡ user ++ rest
   pub is_user : IsUserPart user
 
--- rest = host [ ":" port ], where the host is a DNS name; with a dot at its end it is none (a choice of this profile)
+-- a label that begins with 0x, as numbers do: some readers of URIs take a host that ends in one for an IPv4 address
+abbrev pub is_hex_label : List ℕ → Bool
+is_hex_label [] = false
+is_hex_label (zero_digit ∷ []) = false
+is_hex_label (zero_digit ∷ letter ∷ rest) = zero_digit == 48 && (letter == 120 || letter == 88)
+
+-- a fully qualified domain name (RFC 5280, 4.2.1.10): a host of two labels at least, the last of which is no number
+pub record IsFullyQualified (host : List ℕ) : Type 0 where
+  pub is_host : IsHost host
+  pub front : List ℕ
+  pub last : List ℕ
+  pub labels : IsLastSplit 46 host front last
+  pub no_hex : is_hex_label last ≡ false
+
+-- rest = host [ ":" port ], where the host is a fully qualified domain name; with a dot at its end it is none (a choice of this profile)
 pub record IsHostAndPort (rest host : List ℕ) : Type 0 where
   pub port : List ℕ
   pub joined : rest ≡ host ++ port
-  pub is_host : IsHost host
+  pub is_host : IsFullyQualified host
   pub is_port : IsPortPart port
 
 pub record IsHostOfAuthority (authority host : List ℕ) : Type 0 where
@@ -98,7 +113,7 @@ pub record IsHostOfAuthority (authority host : List ℕ) : Type 0 where
   pub behind_user : IsBehindUser authority rest
   pub host_and_port : IsHostAndPort rest host
 
--- the host of a URI, if its authority has one that is a DNS name
+-- the host of a URI, if its authority has one that is a fully qualified domain name
 pub record IsHostOfUri (uri host : List ℕ) : Type 0 where
   pub authority : List ℕ
   pub has_authority : HasAuthority uri authority
@@ -152,11 +167,19 @@ behind_user authority =
     if list_any (is_one_of at_sign) authority then then_some (list_all is_user_octet (before_any at_sign authority)) (behind_any at_sign authority)
     else Some authority
 
+-- the last of two labels or more is no number
+abbrev pub has_last_label : Option (List ℕ × List ℕ) → Bool
+has_last_label None = false
+has_last_label (Some parts) = not (is_hex_label parts.1)
+
+unfoldable pub is_fully_qualified : List ℕ → Bool
+is_fully_qualified host = is_host host && has_last_label (last_split 46 host)
+
 -- rest = host [ ":" port ], where the port is digits, or nothing (RFC 3986, 3.2.2 and 3.2.3)
 abbrev pub before_port : List ℕ → Option (List ℕ)
-before_port rest = then_some (is_host (before_any colon rest) && list_all is_ascii_digit (behind_any colon rest)) (before_any colon rest)
+before_port rest = then_some (is_fully_qualified (before_any colon rest) && list_all is_ascii_digit (behind_any colon rest)) (before_any colon rest)
 
--- the host of an authority, if it is a DNS name
+-- the host of an authority, if it is a fully qualified domain name
 abbrev pub host_in : List ℕ → Option (List ℕ)
 host_in authority = option_and_then before_port (behind_user authority)
 

@@ -3,8 +3,10 @@
 
 mod host_index;
 mod hosts;
+mod local_part;
 mod mail;
 mod mail_index;
+mod splits;
 mod uris;
 
 pub use host_index::HostIndex;

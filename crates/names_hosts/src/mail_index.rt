@@ -8,6 +8,7 @@ ghost use Rattle.names_hosts.specs.MailLists.{HasMail, HoldsMail, mail_order, is
 
 use crate::host_index::{HostIndex, compare_hosts};
 use crate::hosts::HostBase;
+use crate::local_part::compare_locals;
 use crate::mail::{MailBase, MailName};
 use std::alloc::{AllocError, Global};
 use std::cmp::Ordering;
@@ -35,11 +36,11 @@ impl<'a> Model for MailIndex<'a> {
     ghost invariant = { λ i. IsMailIndex i.all.items i.mailboxes.items i.hosts };
 }
 
-/// Compares mail addresses by their hosts, and then by their local parts, octet by octet.
+/// Compares mail addresses by their hosts, and then by what their local parts stand for.
 fn compare_mail(one: &MailName<'_>, other: &MailName<'_>) -> Ordering
     ensures { result ≡ mail_order (mail_text one.now) (mail_text other.now) }
 {
-    compare_hosts(one.host, other.host).then(one.local.cmp(other.local))
+    compare_hosts(one.host, other.host).then(compare_locals(one.local, other.local))
 }
 
 fn sort(list: &mut Vec<MailName<'_>>) -> Result<(), AllocError>

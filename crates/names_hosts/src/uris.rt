@@ -3,11 +3,13 @@
 ghost use Rattle.std.specs.Prelude.{◌≡◌, ◌↔◌, ◌∷◌, [], ℕ, List, IsTrue, IfSome, Some, option_copied};
 ghost use Rattle.std.specs.List.{list_all, position};
 ghost use Rattle.std.specs.Char.{is_ascii_digit};
-ghost use Rattle.names_hosts.specs.Uri.{is_one_of, HasNone, IsCut, is_scheme_octet, IsScheme, HasAuthority, is_user_octet, IsBehindScheme, IsBehindUser, IsPortPart, IsHostAndPort, IsHostOfAuthority, IsHostOfUri, IsUriAmong, IsUriClearOf};
+ghost use Rattle.names_hosts.specs.Uri.{is_one_of, HasNone, IsCut, is_scheme_octet, IsScheme, HasAuthority, is_user_octet, IsBehindScheme, IsBehindUser, IsPortPart, is_hex_label, has_last_label, IsFullyQualified, IsHostAndPort, IsHostOfAuthority, IsHostOfUri, IsUriAmong, IsUriClearOf};
 ghost use Rattle.names_hosts.specs.Hosts.{host_names};
+ghost use Rattle.names_hosts.specs.Splits.{last_split};
 ghost use Rattle.names_hosts.specs.Laws.{UriHostIsOne, UriHostIsExact};
 
 use crate::hosts::{HostBase, is_host};
+use crate::splits::last_split;
 
 /// What ends an authority.
 const AUTHORITY_ENDS: &[u8] = b"/?#";
@@ -15,7 +17,7 @@ const AUTHORITY_ENDS: &[u8] = b"/?#";
 /// The octets of userinfo that are not letters or digits.
 const USER_MARKS: &[u8] = b"!$%&'()*+,-.:;=_~";
 
-fn is_one_of(ends: &[u8], octet: u8) -> bool
+pub(crate) fn is_one_of(ends: &[u8], octet: u8) -> bool
     ensures { result ≡ is_one_of ends.now octet }
 {
     ends.contains(&octet)
@@ -128,6 +130,33 @@ fn behind_user(authority: &[u8]) -> Option<&[u8]>
     }
 }
 
+/// Whether the label begins with 0x, as a number does.
+fn is_hex_label(label: &[u8]) -> bool
+    ensures { result ≡ is_hex_label label.now }
+{
+    match label {
+        [zero, letter, ..] => *zero == b'0' && (*letter == b'x' || *letter == b'X'),
+        _ => false,
+    }
+}
+
+/// Whether the text has two labels at least, and the last does not begin as a number does.
+fn has_last_label(text: &[u8]) -> bool
+    ensures { result ≡ has_last_label (last_split 46 text.now) }
+{
+    match last_split(text, b'.') {
+        Some((_, label)) => !is_hex_label(label),
+        None => false,
+    }
+}
+
+/// Whether the text is a fully qualified domain name.
+fn is_fully_qualified(text: &[u8]) -> bool
+    ensures { IsTrue result ↔ IsFullyQualified text.now }
+{
+    is_host(text) && has_last_label(text)
+}
+
 /// The host before a port.
 fn before_port(rest: &[u8]) -> Option<&[u8]>
     ensures reads { IfSome result (λ host. IsHostAndPort rest.now host.now) }
@@ -138,7 +167,7 @@ fn before_port(rest: &[u8]) -> Option<&[u8]>
     if !is_port(port) {
         return None;
     }
-    is_host(host).then_some(host)
+    is_fully_qualified(host).then_some(host)
 }
 
 /// The host of an authority.
@@ -153,9 +182,9 @@ fn host_of(authority: &[u8]) -> Option<&[u8]>
     }
 }
 
-/// The host of a URI that a uniformResourceIdentifier holds. `None` if the URI has no authority, or one whose host is no DNS name, as an
-/// IP address: no constraint permits such a URI, and none that excludes URIs is clear of it. What stands behind the authority is not
-/// looked at. Time is linear.
+/// The host of a URI that a uniformResourceIdentifier holds. `None` if the URI has no authority, or one whose host is no fully qualified
+/// domain name, as an IP address or a single label: no constraint permits such a URI, and none that excludes URIs is clear of it. What stands
+/// behind the authority is not looked at. Time is linear.
 pub fn host_of_uri(uri: &[u8]) -> Option<&[u8]>
     ensures reads { IfSome result (λ host. IsHostOfUri uri.now host.now) }
     ensures accepts { (host : List ℕ) → IsHostOfUri uri.now host
@@ -168,7 +197,7 @@ pub fn host_of_uri(uri: &[u8]) -> Option<&[u8]>
 }
 
 impl HostBase<'_> {
-    /// Whether the URI has a host that is a DNS name, and that is one of these.
+    /// Whether the URI has a host that is fully qualified, and that is one of these.
     pub fn covers_uri(&self, uri: &[u8]) -> bool
         ensures decides { IsTrue result ↔ IsUriAmong uri.now (host_names self.now) }
     {
@@ -178,7 +207,7 @@ impl HostBase<'_> {
         }
     }
 
-    /// Whether the URI has a host that is a DNS name, and that is none of these. A URI without one is not clear of them.
+    /// Whether the URI has a host that is fully qualified, and that is none of these. A URI without one is not clear of them.
     pub fn is_clear_of_uri(&self, uri: &[u8]) -> bool
         ensures decides { IsTrue result ↔ IsUriClearOf uri.now (host_names self.now) }
     {

@@ -1,3 +1,4 @@
+pub mod Options
 pub mod Query
 pub mod Reason
 pub mod Conditions
@@ -5,6 +6,8 @@ pub mod Validity
 pub mod State
 pub mod Keeping
 pub mod Reading
+pub mod InProfile
+pub mod ProfileReading
 pub use Rattle.path_conditions.specs.NamesOf
 pub use Rattle.path_conditions.specs.CertificateConditions
 pub use Rattle.path_conditions.specs.Narrowing
@@ -18,3 +21,9 @@ pub use Rattle.cert.specs.Certificate
 pub use Rattle.cert.specs.NameConstraints
 pub use Rattle.cert.specs.BasicConstraints
 pub use Rattle.cert.specs.KeyUsage
+pub use Rattle.cert.specs.Fault
+pub use Rattle.cert_hosts.specs.HostsWalk
+pub use Rattle.cert_hosts.specs.Reading as HostsReading
+pub use Rattle.cert_hosts.specs.Taken
+pub use Rattle.cert_points.specs.PointReading
+pub use Rattle.cert_points.specs.Published

@@ -2,6 +2,7 @@
 -- anchor, of which the name and the key alone are used.
 use Rattle.std.specs.Prelude.{ℕ, ℤ, List, ◌∷◌, Option, length, slice_index_or}
 use Rattle.cert.specs.Certificate.{Certificate}
+use Rattle.path.specs.declared.options.Options.{Options}
 pub use Rattle.path_verifiers.specs.Accepts.{Accepts}
 
 pub record Query : Type 0 where
@@ -11,6 +12,7 @@ pub record Query : Type 0 where
   pub moment : ℤ
   -- the contents of an OBJECT IDENTIFIER
   pub purpose : Option (List ℕ)
+  pub options : Options
 
 -- how many certificates the path has
 abbrev pub count : Query → ℕ

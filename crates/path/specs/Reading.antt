@@ -11,7 +11,7 @@ use Rattle.path.specs.declared.query.Query as asked
 
 -- the question that a query is
 abbrev pub seen_query : asked.Query → Query
-seen_query query = query_of query.anchor query.path.items query.moment (option_copied query.purpose)
+seen_query query = query_of query.anchor query.path.items query.moment (option_copied query.purpose) query.options
 
 -- what slices of octets say
 abbrev pub texts_of : List (Bor (List ℕ)) → List (List ℕ)

@@ -7,6 +7,7 @@ use Rattle.names.specs.GeneralLayout.{GeneralName}
 use Rattle.names.specs.GeneralCoverage.{form_of_general_name}
 use Rattle.cert.specs.Certificate.{Certificate, seen_certificate}
 use Rattle.cert.specs.declared.certificate.Certificate as code
+use Rattle.path.specs.declared.options.Options.{Options}
 use Rattle.path.specs.declared.reason.Reason.{Reason}
 use Rattle.path.specs.declared.reason.Outcome.{Outcome}
 use Rattle.path.specs.declared.reason.Step.{Step}
@@ -20,17 +21,18 @@ use Rattle.path_conditions.specs.Narrowing.{has_processed}
 use Rattle.path_conditions.specs.Constraints.{Constraints, AdmitsName}
 
 -- the question that certificates, as they were read, are part of
-abbrev pub query_of : code.Certificate → List code.Certificate → ℤ → Option (List ℕ) → Query
-query_of anchor path moment purpose = record {
+abbrev pub query_of : code.Certificate → List code.Certificate → ℤ → Option (List ℕ) → Options → Query
+query_of anchor path moment purpose options = record {
   anchor = seen_certificate anchor;
   certificates = map seen_certificate path;
   moment = moment;
   purpose = purpose;
+  options = options;
 }
 
 -- the question that a caller asks
-abbrev pub question : code.Certificate → List code.Certificate → ℤ → Option (Bor (List ℕ)) → Query
-question anchor path moment purpose = query_of anchor path moment (option_copied purpose)
+abbrev pub question : code.Certificate → List code.Certificate → ℤ → Option (Bor (List ℕ)) → Options → Query
+question anchor path moment purpose options = query_of anchor path moment (option_copied purpose) options
 
 -- a validation that certificates 1 to done have passed
 pub record Progress (V : Type 0) : Type 0 where
@@ -67,14 +69,14 @@ pub record CarriesNoSubtree (q : Query) (j : ℕ) : Type 0 where
   pub hosts : HasNoBase (hosts_at q j)
 
 -- no certificate of the path carries one
-abbrev pub CarryNoSubtrees : code.Certificate → List code.Certificate → ℤ → Option (Bor (List ℕ)) → Type 0
-CarryNoSubtrees anchor path moment purpose =
-    (j : ℕ) → 1 ≤ j → j ≤ length path → CarriesNoSubtree (question anchor path moment purpose) j
+abbrev pub CarryNoSubtrees : code.Certificate → List code.Certificate → ℤ → Option (Bor (List ℕ)) → Options → Type 0
+CarryNoSubtrees anchor path moment purpose options =
+    (j : ℕ) → 1 ≤ j → j ≤ length path → CarriesNoSubtree (question anchor path moment purpose options) j
 
 -- what is answered is the outcome of the question that the caller asks
-abbrev pub HasOutcome : {V E : Type 0} → (V → Accepts) → V → code.Certificate → List code.Certificate → ℤ → Option (Bor (List ℕ)) → Result Outcome E → Type 0
-HasOutcome accepts verifier anchor path moment purpose result =
-    IfOk result (IsOutcome (accepts verifier) (question anchor path moment purpose))
+abbrev pub HasOutcome : {V E : Type 0} → (V → Accepts) → V → code.Certificate → List code.Certificate → ℤ → Option (Bor (List ℕ)) → Options → Result Outcome E → Type 0
+HasOutcome accepts verifier anchor path moment purpose options result =
+    IfOk result (IsOutcome (accepts verifier) (question anchor path moment purpose options))
 
 -- certificates 1 to j meet all conditions, and j carries a subtree of a processed form, for which memory is asked
 pub record AsksMemoryAt (accepts : Accepts) (q : Query) (j : ℕ) : Type 0 where
@@ -85,9 +87,9 @@ pub record AsksMemoryAt (accepts : Accepts) (q : Query) (j : ℕ) : Type 0 where
   pub carries : ¬ CarriesNoSubtree q j
 
 -- an error is answered only if the question that the caller asks has such a certificate
-abbrev pub NeedsRoom : {V E : Type 0} → (V → Accepts) → V → code.Certificate → List code.Certificate → ℤ → Option (Bor (List ℕ)) → Result Outcome E → Type 0
-NeedsRoom accepts verifier anchor path moment purpose result =
-    OnErr result ((j : ℕ) × AsksMemoryAt (accepts verifier) (question anchor path moment purpose) j)
+abbrev pub NeedsRoom : {V E : Type 0} → (V → Accepts) → V → code.Certificate → List code.Certificate → ℤ → Option (Bor (List ℕ)) → Options → Result Outcome E → Type 0
+NeedsRoom accepts verifier anchor path moment purpose options result =
+    OnErr result ((j : ℕ) × AsksMemoryAt (accepts verifier) (question anchor path moment purpose options) j)
 
 -- The words below speak of the certificate behind those that have passed: it meets the condition whose breach is the reason,
 -- or all of them, or this is the condition of the least rank that it breaks.

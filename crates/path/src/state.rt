@@ -6,6 +6,7 @@ ghost use Rattle.std.specs.Option.{option_copied};
 ghost use Rattle.std.specs.Str.{bytes_eq};
 ghost use Rattle.cert.specs.Certificate.{is_self_issued, seen_certificate};
 ghost use Rattle.path.specs.declared.reason.Reason.TheVariants as reason;
+ghost use Rattle.path.specs.Options.{stated_options};
 ghost use Rattle.path.specs.Query.{count, certificate_numbered};
 ghost use Rattle.path.specs.Conditions.{AreNamesChecked, ConstraintsAreProcessed, hosts_at};
 ghost use Rattle.path.specs.Validity.{IsServed};
@@ -14,6 +15,7 @@ ghost use Rattle.path_host_constraints.specs.HostConstraints.{AreLeftBy};
 ghost use Rattle.path.specs.State.{question, TakesStep, NextMeets, MeetsAll, NextBreaks, NextPasses, AdmitsExactly, CarriesNoSubtree, subtrees_up_to};
 ghost use Rattle.path.specs.Keeping.{spent, lesser};
 
+use crate::options::Options;
 use crate::reason::{Reason, Step};
 use cert::Certificate;
 use names::Name;
@@ -59,6 +61,7 @@ pub struct State<'p, 'c, V> {
     path: &'p [Certificate<'c>],
     moment: i64,
     purpose: Option<&'p [u8]>,
+    options: Options,
     done: usize,
     issuer: Name<'c>,
     key: &'c [u8],
@@ -82,12 +85,12 @@ impl<'p, 'c, V> Model for State<'p, 'c, V> {
 
     ghost view = { λ s. record {
       verifier = s.verifier.now;
-      query = query_of s.anchor.now s.path.now s.moment (option_copied s.purpose);
+      query = query_of s.anchor.now s.path.now s.moment (option_copied s.purpose) s.options;
       done = s.done;
       constraints = seen_constraints s.constraints;
     } };
 
-    ghost invariant = { λ s. Represents (query_of s.anchor.now s.path.now s.moment (option_copied s.purpose)) s.done
+    ghost invariant = { λ s. Represents (query_of s.anchor.now s.path.now s.moment (option_copied s.purpose) s.options) s.done
         (name_contents s.issuer) s.key.now s.room (seen_constraints s.constraints) s.forms };
 }
 
@@ -138,8 +141,7 @@ fn repeats(earlier: &[Certificate<'_>], later: &Certificate<'_>) -> bool
 }
 
 impl<'p, 'c, V: Verifier> State<'p, 'c, V> {
-    /// The validation before the first certificate. `moment` is in seconds from 1970-01-01T00:00:00Z, `purpose` the contents of an OBJECT
-    /// IDENTIFIER, if one is asked for. No memory is taken.
+    /// The validation before the first certificate, in the stated profile, as `start_with`.
     pub fn start(
         alloc: Global,
         verifier: &'p V,
@@ -149,7 +151,27 @@ impl<'p, 'c, V: Verifier> State<'p, 'c, V> {
         purpose: Option<&'p [u8]>,
     ) -> State<'p, 'c, V>
         ensures verifier { result.verifier ≡ verifier.now }
-        ensures query { result.query ≡ question anchor.now path.now moment purpose.entry }
+        ensures query { result.query
+            ≡ question anchor.now path.now moment purpose.entry stated_options }
+        ensures done { result.done ≡ 0 }
+    {
+        let options = Options::stated();
+        State::start_with(alloc, verifier, anchor, path, moment, purpose, options)
+    }
+
+    /// The validation before the first certificate. `moment` is in seconds from 1970-01-01T00:00:00Z, `purpose` the contents of an OBJECT
+    /// IDENTIFIER, if one is asked for. No memory is taken.
+    pub fn start_with(
+        alloc: Global,
+        verifier: &'p V,
+        anchor: &'p Certificate<'c>,
+        path: &'p [Certificate<'c>],
+        moment: i64,
+        purpose: Option<&'p [u8]>,
+        options: Options,
+    ) -> State<'p, 'c, V>
+        ensures verifier { result.verifier ≡ verifier.now }
+        ensures query { result.query ≡ question anchor.now path.now moment purpose.entry options }
         ensures done { result.done ≡ 0 }
     {
         State {
@@ -159,6 +181,7 @@ impl<'p, 'c, V: Verifier> State<'p, 'c, V> {
             path,
             moment,
             purpose,
+            options,
             done: 0,
             issuer: anchor.subject,
             key: anchor.subject_public_key_info.value.whole,
@@ -299,8 +322,13 @@ impl<'p, 'c, V: Verifier> State<'p, 'c, V> {
             Reason::PathLength => self.is_within_path_length(),
             Reason::KeyCertSign => self.is_last() || may_sign_certificates(certificate),
             Reason::Policy => needs_no_policy_tree(certificate),
-            Reason::CriticalUnknown => are_critical_extensions_known(certificate),
-            Reason::Purpose => !self.is_last() || allows_purpose(certificate, self.purpose),
+            Reason::CriticalUnknown => are_critical_extensions_known(
+                self.options.profile,
+                certificate,
+            ),
+            Reason::Purpose => {
+                !self.is_last() || allows_purpose(self.options.profile, certificate, self.purpose)
+            }
             Reason::Empty | Reason::TooLong => true,
             Reason::NoValidPolicy | Reason::AnyPolicyMapped | Reason::NoUserPolicy => true,
         }

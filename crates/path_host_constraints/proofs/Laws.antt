@@ -1,17 +1,18 @@
 -- The constraints that are held are those that the certificates before one leave, and what they ask is what these ask of it.
 -- These are the laws that other crates may cite.
-use Rattle.std.proofs.Common.{◌≡◌, ◌⊎◌, ◌↔◌, ◌<◌, ◌≤◌, ◌+◌, ℕ, zero, suc, Bool, true, List, Option, None, Some, arith, refl, sym, subst, inl, inr, Contains}
+use Rattle.std.proofs.Common.{◌≡◌, ◌⊎◌, ◌↔◌, ◌<◌, ◌≤◌, ◌+◌, ℕ, zero, suc, Bool, true, List, Option, None, Some, arith, refl, sym, ap, subst, inl, inr, Contains}
 use Rattle.std.specs.Prelude.{IsTrue}
 use Rattle.std.proofs.lemmas.Bool.{cases_lt, false≢true}
 use Rattle.names_hosts.specs.Hosts.{IsAmongHosts}
-use Rattle.names_hosts.specs.Mail.{IsAmongMail}
+use Rattle.names_hosts.specs.Mail.{MailText, IsAmongMail}
 use Rattle.names_hosts.specs.HostLists.{HasHost}
 use Rattle.names_hosts.specs.MailLists.{HasMail}
 use Rattle.cert.specs.CertificateHosts.{CertificateHosts}
 use Rattle.path_host_constraints.specs.MailLists.{PermitsMailIn}
-use Rattle.path_host_constraints.specs.HostLists.{PermitsHostIn, PermitsFound, ExcludesFound}
-use Rattle.path_host_constraints.specs.HostConditions.{PermitsMail, PermitsHost, ConstrainsUris, PermitHosts, ExcludeNoHost, HaveHosts, HostsArePermitted, HostsAreNotExcluded, UrisHaveHosts}
-use Rattle.path_host_constraints.specs.HostConstraints.{HostConstraints, no_constraints, Narrows, AreLeftBy, Permit, DoNotExclude, FindHosts, base_count, bases_in, bases_up_to}
+use Rattle.path_host_constraints.specs.Lists.{PermitsFoundIn, HasFound}
+use Rattle.path_host_constraints.specs.HostLists.{PermitsHostIn}
+use Rattle.path_host_constraints.specs.HostConditions.{PermitsMail, PermitsHost, ConstrainsMail, ConstrainsUris, PermitHosts, ExcludeNoHost, HaveHosts, HostsArePermitted, HostsAreNotExcluded, UrisHaveHosts}
+use Rattle.path_host_constraints.specs.HostConstraints.{HostConstraints, no_constraints, Narrows, AreLeftBy, Permit, DoNotExclude, FindHosts, base_count, bases_in, bases_before}
 use Rattle.path_host_constraints.proofs.Narrowed.{in_none}
 
 -- what holds of all before one and of it, and what holds of one of them or of it
@@ -60,8 +61,14 @@ either_more P j New Old from made before = (forth, back)
     ])
 
 module _ (says : ℕ → CertificateHosts) where
+  more_before : (j : ℕ) → 1 ≤ j → bases_before says (j + 1) ≡ bases_before says j + bases_in (says j)
+  unfolding bases_before
+  more_before zero from = absurd (omega (arith, from))
+  more_before (suc k) from = ap (λ n. bases_before says n) {x = suc k + 1} {y = suc (suc k)} (omega arith)
+
   -- before the first certificate nothing is constrained
   pub none_is_left : AreLeftBy says 1 no_constraints
+  unfolding bases_before
   none_is_left = record {
     mail = λ name. (λ p i l h. absurd (omega (arith, l, h)), λ all. tt);
     hosts = λ host. (λ p i l h. absurd (omega (arith, l, h)), λ all. tt);
@@ -73,10 +80,15 @@ module _ (says : ℕ → CertificateHosts) where
       λ has. absurd (in_none (λ base. IsAmongHosts host base) has),
       λ some. absurd (not_some (λ i. HasHost (says i).excluded_hosts host) some),
     );
-    uris = (
+    constrains_mail = (
+      λ t. absurd (false≢true t),
+      λ some. absurd (not_some (λ i. ConstrainsMail (says i)) some),
+    );
+    constrains_uris = (
       λ t. absurd (false≢true t),
       λ some. absurd (not_some (λ i. ConstrainsUris (says i)) some),
     );
+    few = omega arith;
   }
 
   -- what a certificate narrows is left by it too
@@ -86,7 +98,9 @@ module _ (says : ℕ → CertificateHosts) where
     hosts = λ host. both_more (λ i. PermitsHost (says i) host) j (PermitsHostIn new.hosts host) (PermitsHostIn old.hosts host) from (made.hosts host) (before.hosts host);
     excluded_mail = λ name. either_more (λ i. HasMail (says i).excluded_mail name) j (HasMail new.excluded_mail name) (HasMail old.excluded_mail name) from (made.excluded_mail name) (before.excluded_mail name);
     excluded_hosts = λ host. either_more (λ i. HasHost (says i).excluded_hosts host) j (HasHost new.excluded_hosts host) (HasHost old.excluded_hosts host) from (made.excluded_hosts host) (before.excluded_hosts host);
-    uris = either_more (λ i. ConstrainsUris (says i)) j (new.uris ≡ true) (old.uris ≡ true) from made.uris before.uris;
+    constrains_mail = either_more (λ i. ConstrainsMail (says i)) j (new.constrains_mail ≡ true) (old.constrains_mail ≡ true) from made.constrains_mail before.constrains_mail;
+    constrains_uris = either_more (λ i. ConstrainsUris (says i)) j (new.constrains_uris ≡ true) (old.constrains_uris ≡ true) from made.constrains_uris before.constrains_uris;
+    few = let few = made.few in let was = before.few in let more = more_before j from in omega arith;
   }
 
   module _ (j : ℕ) (held : HostConstraints) (left : AreLeftBy says j held) where
@@ -96,43 +110,51 @@ module _ (says : ℕ → CertificateHosts) where
       where
         forth : Permit held (says j) → HostsArePermitted says j
         forth p i l h = record {
-          mail = λ name within. (left.mail name).0 (p.mail name within) i l h;
+          mail = λ name within. (left.mail name).0 (p.mail (Some name) within) i l h;
           hosts = λ host within. (left.hosts host).0 (p.hosts (Some host) within) i l h;
         }
 
-        found : HostsArePermitted says j → (found : Option (List ℕ)) → Contains (says j).hosts found → PermitsFound held.hosts found
-        found p None within = tt
-        found p (Some host) within = (left.hosts host).1 (λ i l h. (p i l h).hosts host within)
+        mailbox : HostsArePermitted says j → (found : Option MailText) → Contains (says j).mail found → PermitsFoundIn IsAmongMail held.mail found
+        mailbox p None within = tt
+        mailbox p (Some name) within = (left.mail name).1 (λ i l h. (p i l h).mail name within)
+
+        host : HostsArePermitted says j → (found : Option (List ℕ)) → Contains (says j).hosts found → PermitsFoundIn IsAmongHosts held.hosts found
+        host p None within = tt
+        host p (Some name) within = (left.hosts name).1 (λ i l h. (p i l h).hosts name within)
 
         back : HostsArePermitted says j → Permit held (says j)
-        back p = record {
-          mail = λ name within. (left.mail name).1 (λ i l h. (p i l h).mail name within);
-          hosts = found p;
-        }
+        back p = record { mail = mailbox p; hosts = host p }
 
     pub exclude_exactly : DoNotExclude held (says j) ↔ HostsAreNotExcluded says j
     exclude_exactly = (forth, back)
       where
         forth : DoNotExclude held (says j) → HostsAreNotExcluded says j
         forth d i l h = record {
-          mail = λ name within has. d.mail name within ((left.excluded_mail name).1 (i, l, h, has));
+          mail = λ name within has. d.mail (Some name) within ((left.excluded_mail name).1 (i, l, h, has));
           hosts = λ host within has. d.hosts (Some host) within ((left.excluded_hosts host).1 (i, l, h, has));
         }
 
-        found : HostsAreNotExcluded says j → (found : Option (List ℕ)) → Contains (says j).hosts found → ¬ ExcludesFound held.excluded_hosts found
-        found n None within never = never
-        found n (Some host) within has = let some = (left.excluded_hosts host).0 has in (n some.0 some.1 some.2).hosts host within some.3
+        mailbox : HostsAreNotExcluded says j → (found : Option MailText) → Contains (says j).mail found → ¬ HasFound IsAmongMail held.excluded_mail found
+        mailbox n None within never = never
+        mailbox n (Some name) within has = let some = (left.excluded_mail name).0 has in (n some.0 some.1 some.2).mail name within some.3
+
+        host : HostsAreNotExcluded says j → (found : Option (List ℕ)) → Contains (says j).hosts found → ¬ HasFound IsAmongHosts held.excluded_hosts found
+        host n None within never = never
+        host n (Some name) within has = let some = (left.excluded_hosts name).0 has in (n some.0 some.1 some.2).hosts name within some.3
 
         back : HostsAreNotExcluded says j → DoNotExclude held (says j)
-        back n = record {
-          mail = λ name within has. let some = (left.excluded_mail name).0 has in (n some.0 some.1 some.2).mail name within some.3;
-          hosts = found n;
-        }
+        back n = record { mail = mailbox n; hosts = host n }
 
     pub find_hosts_exactly : FindHosts held (says j) ↔ UrisHaveHosts says j
     find_hosts_exactly = (
-      λ f i l h constrains within. f (left.uris.1 (i, l, h, constrains)) within,
-      λ u t within. let some = left.uris.0 t in u some.0 some.1 some.2 some.3 within,
+      λ f i l h. record {
+        mail = λ constrains within. f.mail (left.constrains_mail.1 (i, l, h, constrains)) within;
+        uris = λ constrains within. f.uris (left.constrains_uris.1 (i, l, h, constrains)) within;
+      },
+      λ u. record {
+        mail = λ t within. let some = left.constrains_mail.0 t in (u some.0 some.1 some.2).mail some.3 within;
+        uris = λ t within. let some = left.constrains_uris.0 t in (u some.0 some.1 some.2).uris some.3 within;
+      },
     )
 
     -- the same of the answers of the tests
@@ -144,21 +166,6 @@ module _ (says : ℕ → CertificateHosts) where
 
     pub finds_hosts_exactly : (answer : Bool) → IsTrue answer ↔ FindHosts held (says j) → IsTrue answer ↔ UrisHaveHosts says j
     finds_hosts_exactly answer is = (λ t. find_hosts_exactly.0 (is.0 t), λ u. is.1 (find_hosts_exactly.1 u))
-
-  -- no more bases are held than the certificates have
-  more_up_to : (k : ℕ) → bases_up_to says (suc k) ≡ bases_up_to says k + bases_in (says (suc k))
-  unfolding bases_up_to
-  more_up_to k = refl
-
-  pub hold_at_most : (k : ℕ) (old new : HostConstraints) → base_count old ≤ bases_up_to says k → base_count new ≤ base_count old + bases_in (says (k + 1)) → base_count new ≤ bases_up_to says (k + 1)
-  hold_at_most k old new before few =
-      subst (λ n. base_count new ≤ bases_up_to says n) next
-      (let few : base_count new ≤ base_count old + bases_in (says (suc k)) = subst (λ n. base_count new ≤ base_count old + bases_in (says n)) (sym next) few in
-      let more = more_up_to k in
-      omega arith)
-    where
-      next : suc k ≡ k + 1
-      next = omega arith
 
 -- what one certificate alone leaves, it asks of another
 

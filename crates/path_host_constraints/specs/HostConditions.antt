@@ -17,23 +17,28 @@ PermitsMail constraints name = constraints.permitted_mail ≢ [] → HasMail con
 abbrev pub PermitsHost : CertificateHosts → List ℕ → Type 0
 PermitsHost constraints host = constraints.permitted_hosts ≢ [] → HasHost constraints.permitted_hosts host
 
--- there is a subtree of URIs
+-- there is a subtree of mail addresses, or one of URIs
+abbrev pub ConstrainsMail : CertificateHosts → Type 0
+ConstrainsMail constraints = (constraints.permitted_mail ≢ []) ⊎ (constraints.excluded_mail ≢ [])
+
 abbrev pub ConstrainsUris : CertificateHosts → Type 0
 ConstrainsUris constraints = (constraints.permitted_hosts ≢ []) ⊎ (constraints.excluded_hosts ≢ [])
 
--- a certificate permits each mail address of a later one, and the host of each URI that has one (6.1.3 (b))
+-- a certificate permits each mail address of a later one that is a mailbox, and the host of each URI that has one (6.1.3 (b))
 pub record PermitHosts (above c : CertificateHosts) : Type 0 where
-  pub mail : (name : MailText) → Contains c.mail name → PermitsMail above name
+  pub mail : (name : MailText) → Contains c.mail (Some name) → PermitsMail above name
   pub hosts : (host : List ℕ) → Contains c.hosts (Some host) → PermitsHost above host
 
 -- it excludes none of them (6.1.3 (c))
 pub record ExcludeNoHost (above c : CertificateHosts) : Type 0 where
-  pub mail : (name : MailText) → Contains c.mail name → ¬ HasMail above.excluded_mail name
+  pub mail : (name : MailText) → Contains c.mail (Some name) → ¬ HasMail above.excluded_mail name
   pub hosts : (host : List ℕ) → Contains c.hosts (Some host) → ¬ HasHost above.excluded_hosts host
 
--- if it constrains URIs, each URI has a host that is a DNS name (4.2.1.10)
-abbrev pub HaveHosts : CertificateHosts → CertificateHosts → Type 0
-HaveHosts above c = ConstrainsUris above → ¬ Contains c.hosts None
+-- If it constrains mail addresses, each of them is a mailbox of the form that is processed (a choice of this profile: another one may lie in
+-- any subtree). If it constrains URIs, each URI has a host that is a fully qualified DNS name (4.2.1.10).
+pub record HaveHosts (above c : CertificateHosts) : Type 0 where
+  pub mail : ConstrainsMail above → ¬ Contains c.mail None
+  pub uris : ConstrainsUris above → ¬ Contains c.hosts None
 
 -- each certificate before number j does
 abbrev pub HostsArePermitted : (ℕ → CertificateHosts) → ℕ → Type 0

@@ -1,8 +1,8 @@
 -- Lists of bases on the hosts of URIs, narrowed and joined (RFC 5280, 6.1.4 (g)), and what they say of hosts.
-use Rattle.std.specs.Prelude.{◌≢◌, ◌↔◌, ℕ, List, [], Bool, true, false, Option, None, Some, Contains}
+use Rattle.std.specs.Prelude.{◌≢◌, ◌↔◌, ℕ, List, [], Bool, true, false, Option, Contains}
 use Rattle.names_hosts.specs.Hosts.{HostNames, IsAmongHosts, AreHostsInside}
 use Rattle.names_hosts.specs.HostLists.{HasHost, HoldsHosts}
-use Rattle.path_host_constraints.specs.Lists.{Selects, TakesIf, PermitsIn}
+use Rattle.path_host_constraints.specs.Lists.{Selects, TakesIf, PermitsIn, PermitsFoundIn, PermitsAllIn, HasFound, HasNone}
 
 -- the base is inside one of the first bases, and in none of the others
 abbrev pub Enters : List HostNames → List HostNames → HostNames → Bool → Type 0
@@ -28,11 +28,10 @@ PermitsHostIn list host = PermitsIn IsAmongHosts list host
 
 -- of the hosts of URIs each that is there
 abbrev pub PermitsFound : Option (List HostNames) → Option (List ℕ) → Type 0
-PermitsFound list None = Unit {0}
-PermitsFound list (Some host) = PermitsHostIn list host
+PermitsFound list found = PermitsFoundIn IsAmongHosts list found
 
 abbrev pub PermitsAllHosts : Option (List HostNames) → List (Option (List ℕ)) → Type 0
-PermitsAllHosts list hosts = (found : Option (List ℕ)) → Contains hosts found → PermitsFound list found
+PermitsAllHosts list hosts = PermitsAllIn IsAmongHosts list hosts
 
 -- behind one more certificate just the hosts are permitted that were before, and that it permits
 abbrev pub IsNarrowedHosts : Option (List HostNames) → List HostNames → Option (List HostNames) → Type 0
@@ -40,12 +39,7 @@ IsNarrowedHosts old carried new =
     (host : List ℕ) → PermitsHostIn new host ↔ (PermitsHostIn old host × (carried ≢ [] → HasHost carried host))
 
 abbrev pub ExcludesFound : List HostNames → Option (List ℕ) → Type 0
-ExcludesFound bases None = ⊥
-ExcludesFound bases (Some host) = HasHost bases host
+ExcludesFound bases found = HasFound IsAmongHosts bases found
 
 abbrev pub ExcludesNoHost : List HostNames → List (Option (List ℕ)) → Type 0
-ExcludesNoHost bases hosts = (found : Option (List ℕ)) → Contains hosts found → ¬ ExcludesFound bases found
-
--- no URI is without a host
-abbrev pub HasEachHost : List (Option (List ℕ)) → Type 0
-HasEachHost hosts = ¬ Contains hosts None
+ExcludesNoHost bases hosts = HasNone IsAmongHosts bases hosts

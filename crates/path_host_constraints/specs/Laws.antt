@@ -2,7 +2,7 @@
 use Rattle.std.specs.Prelude.{◌↔◌, ◌+◌, ◌≤◌, ℕ}
 use Rattle.cert.specs.CertificateHosts.{CertificateHosts}
 use Rattle.path_host_constraints.specs.HostConditions.{PermitHosts, ExcludeNoHost, HaveHosts, HostsArePermitted, HostsAreNotExcluded, UrisHaveHosts}
-use Rattle.path_host_constraints.specs.HostConstraints.{HostConstraints, no_constraints, Narrows, AreLeftBy, Permit, DoNotExclude, FindHosts, base_count, bases_in, bases_up_to}
+use Rattle.path_host_constraints.specs.HostConstraints.{HostConstraints, no_constraints, Narrows, AreLeftBy, Permit, DoNotExclude, FindHosts, base_count, bases_before}
 
 -- no constraints are left by those before the first
 abbrev pub NoneAreLeftAtFirst : Type 0
@@ -37,5 +37,4 @@ AskAlone =
 -- and they hold at most as many bases as those certificates have
 abbrev pub HoldAtMost : Type 0
 HoldAtMost =
-    (says : ℕ → CertificateHosts) (k : ℕ) (old new : HostConstraints) → base_count old ≤ bases_up_to says k
-    → base_count new ≤ base_count old + bases_in (says (k + 1)) → base_count new ≤ bases_up_to says (k + 1)
+    (says : ℕ → CertificateHosts) (j : ℕ) (held : HostConstraints) → AreLeftBy says j held → base_count held ≤ bases_before says j

@@ -1,6 +1,6 @@
 -- Lists of bases as they are narrowed and joined from certificate to certificate (RFC 5280, 6.1.4 (g)), of either form. `Among` says
 -- which names lie in a base, and `Inside` which bases lie in another.
-use Rattle.std.specs.Prelude.{◌≡◌, ◌⊎◌, ℕ, List, [], ◌∷◌, ◌++◌, Option, None, Some, Any, length}
+use Rattle.std.specs.Prelude.{◌≡◌, ◌⊎◌, ℕ, List, [], ◌∷◌, ◌++◌, Option, None, Some, Any, Contains, length}
 
 -- a name is among those of one of the bases
 abbrev pub Has : {X B : Type 0} → (X → B → Type 0) → List B → X → Type 0
@@ -29,6 +29,26 @@ members_of (list ∷ lists) = list ++ members_of lists
 abbrev pub PermitsIn : {X B : Type 0} → (X → B → Type 0) → Option (List B) → X → Type 0
 PermitsIn Among None x = Unit {0}
 PermitsIn Among (Some list) x = Has Among list x
+
+-- of names, those that are there: each is permitted
+abbrev pub PermitsFoundIn : {X B : Type 0} → (X → B → Type 0) → Option (List B) → Option X → Type 0
+PermitsFoundIn Among list None = Unit {0}
+PermitsFoundIn Among list (Some x) = PermitsIn Among list x
+
+abbrev pub PermitsAllIn : {X B : Type 0} → (X → B → Type 0) → Option (List B) → List (Option X) → Type 0
+PermitsAllIn {X = X} Among list names = (found : Option X) → Contains names found → PermitsFoundIn Among list found
+
+-- and none is excluded
+abbrev pub HasFound : {X B : Type 0} → (X → B → Type 0) → List B → Option X → Type 0
+HasFound Among bases None = ⊥
+HasFound Among bases (Some x) = Has Among bases x
+
+abbrev pub HasNone : {X B : Type 0} → (X → B → Type 0) → List B → List (Option X) → Type 0
+HasNone {X = X} Among bases names = (found : Option X) → Contains names found → ¬ HasFound Among bases found
+
+-- all of them are there
+abbrev pub HasEach : {X : Type 0} → List (Option X) → Type 0
+HasEach names = ¬ Contains names None
 
 -- what is left of a list: a new one, or the list itself where there is none
 abbrev pub left_of : {L : Type 0} → L → Option L → L

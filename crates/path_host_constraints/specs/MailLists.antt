@@ -2,7 +2,7 @@
 use Rattle.std.specs.Prelude.{◌≢◌, ◌↔◌, List, [], Bool, true, false, Option, Contains}
 use Rattle.names_hosts.specs.Mail.{MailText, MailNames, IsAmongMail, IsMailInside}
 use Rattle.names_hosts.specs.MailLists.{HasMail, HoldsMail}
-use Rattle.path_host_constraints.specs.Lists.{Selects, TakesIf, PermitsIn}
+use Rattle.path_host_constraints.specs.Lists.{Selects, TakesIf, PermitsIn, PermitsFoundIn, PermitsAllIn, HasFound, HasNone}
 
 -- the base is inside one of the first bases, and in none of the others
 abbrev pub Enters : List MailNames → List MailNames → MailNames → Bool → Type 0
@@ -26,13 +26,20 @@ NarrowsMail held carried list = (name : MailText) → HasMail list name ↔ (Has
 abbrev pub PermitsMailIn : Option (List MailNames) → MailText → Type 0
 PermitsMailIn list name = PermitsIn IsAmongMail list name
 
-abbrev pub PermitsAllMail : Option (List MailNames) → List MailText → Type 0
-PermitsAllMail list names = (name : MailText) → Contains names name → PermitsMailIn list name
+-- of the mail addresses each that is a mailbox
+abbrev pub PermitsFound : Option (List MailNames) → Option MailText → Type 0
+PermitsFound list found = PermitsFoundIn IsAmongMail list found
+
+abbrev pub PermitsAllMail : Option (List MailNames) → List (Option MailText) → Type 0
+PermitsAllMail list names = PermitsAllIn IsAmongMail list names
 
 -- behind one more certificate just the mail addresses are permitted that were before, and that it permits
 abbrev pub IsNarrowedMail : Option (List MailNames) → List MailNames → Option (List MailNames) → Type 0
 IsNarrowedMail old carried new =
     (name : MailText) → PermitsMailIn new name ↔ (PermitsMailIn old name × (carried ≢ [] → HasMail carried name))
 
-abbrev pub ExcludesNoMail : List MailNames → List MailText → Type 0
-ExcludesNoMail bases names = (name : MailText) → Contains names name → ¬ HasMail bases name
+abbrev pub ExcludesFound : List MailNames → Option MailText → Type 0
+ExcludesFound bases found = HasFound IsAmongMail bases found
+
+abbrev pub ExcludesNoMail : List MailNames → List (Option MailText) → Type 0
+ExcludesNoMail bases names = HasNone IsAmongMail bases names

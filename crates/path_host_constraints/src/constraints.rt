@@ -1,15 +1,18 @@
 //! The constraints on mail addresses and URIs of the certificates of a path that have passed (RFC 5280, 6.1.2 (b) and (c)).
 
-ghost use Rattle.std.specs.Prelude.{◌≡◌, ◌↔◌, ◌+◌, ◌^◌, ◌<◌, ◌≤◌, IsTrue, IsOk, IfOk, OnOk, OnErr, vec_len};
+ghost use Rattle.std.specs.Prelude.{◌≡◌, ◌↔◌, ◌+◌, ◌^◌, ◌<◌, ◌≤◌, IsTrue, IsOk, IfOk, OnOk, OnErr, true, vec_len};
 ghost use Rattle.cert.specs.CertificateHosts.{seen_hosts};
-ghost use Rattle.path_host_constraints.specs.HostConditions.{ConstrainsUris};
+ghost use Rattle.path_host_constraints.specs.HostConditions.{ConstrainsMail, ConstrainsUris};
+ghost use Rattle.path_host_constraints.specs.Lists.{HasEach};
 ghost use Rattle.path_host_constraints.specs.HostConstraints.{no_constraints, Narrows, HasNoBase, Permit, DoNotExclude, FindHosts, base_count, bases_in, CountsExcluded};
 
 use crate::host_lists::{
     count_hosts, excludes_no_host, join_hosts, lacks_no_host, narrow_hosts, permits_all_hosts,
 };
 use crate::indexes::{put, replace};
-use crate::mail_lists::{count_mail, excludes_no_mail, join_mail, narrow_mail, permits_all_mail};
+use crate::mail_lists::{
+    are_mailboxes, count_mail, excludes_no_mail, join_mail, narrow_mail, permits_all_mail,
+};
 use cert::CertificateHosts;
 use names_hosts::{HostIndex, MailIndex};
 use std::alloc::{AllocError, Global};
@@ -27,8 +30,10 @@ pub struct HostConstraints<'a> {
     excluded_hosts: Vec<HostIndex<'a>>,
     /// How many bases are excluded, of both forms.
     excluded: usize,
+    /// Whether some certificate constrained mail addresses.
+    constrains_mail: bool,
     /// Whether some certificate constrained URIs.
-    uris: bool,
+    constrains_uris: bool,
 }
 
 impl<'a> Model for HostConstraints<'a> {
@@ -42,13 +47,21 @@ impl<'a> Model for HostConstraints<'a> {
       hosts = h.hosts;
       excluded_mail = members_of h.excluded_mail.items;
       excluded_hosts = members_of h.excluded_hosts.items;
-      uris = h.uris;
+      constrains_mail = h.constrains_mail;
+      constrains_uris = h.constrains_uris;
     } };
 
     ghost invariant = { λ h. CountsExcluded (members_of h.excluded_mail.items) (members_of h.excluded_hosts.items) h.excluded };
 }
 
-/// Whether the certificate constrains URIs.
+/// Whether the certificate constrains mail addresses.
+fn constrains_mail(hosts: &CertificateHosts<'_>) -> bool
+    ensures { IsTrue result ↔ ConstrainsMail (seen_hosts hosts.now) }
+{
+    !hosts.permitted_mail.is_empty() || !hosts.excluded_mail.is_empty()
+}
+
+/// Whether it constrains URIs.
 fn constrains_uris(hosts: &CertificateHosts<'_>) -> bool
     ensures { IsTrue result ↔ ConstrainsUris (seen_hosts hosts.now) }
 {
@@ -59,14 +72,30 @@ fn constrains_uris(hosts: &CertificateHosts<'_>) -> bool
 fn has_no_base(hosts: &CertificateHosts<'_>) -> bool
     ensures { IsTrue result ↔ HasNoBase (seen_hosts hosts.now) }
 {
-    hosts.permitted_mail.is_empty() && hosts.excluded_mail.is_empty() && !constrains_uris(hosts)
+    !constrains_mail(hosts) && !constrains_uris(hosts)
 }
 
-/// How many bases are excluded behind the certificate. More than `MOST` would lack memory.
+/// Whether each mail address of the certificate is a mailbox, if that is asked.
+fn has_each_mailbox(asked: bool, hosts: &CertificateHosts<'_>) -> bool
+    ensures { IsTrue result ↔ (asked ≡ true → HasEach (seen_hosts hosts.now).mail) }
+{
+    !asked || are_mailboxes(&hosts.mail)
+}
+
+/// Whether each URI of the certificate has a host, if that is asked.
+fn has_each_host(asked: bool, hosts: &CertificateHosts<'_>) -> bool
+    ensures { IsTrue result ↔ (asked ≡ true → HasEach (seen_hosts hosts.now).hosts) }
+{
+    !asked || lacks_no_host(&hosts.hosts)
+}
+
+/// How many bases are excluded behind the certificate. Memory has room for fewer than `MOST`.
 fn count_excluded(before: usize, hosts: &CertificateHosts<'_>) -> Result<usize, AllocError>
     ensures count { IfOk result (λ count. count ≡ before
         + (vec_len hosts.now.excluded_mail + vec_len hosts.now.excluded_hosts)) }
     ensures small { IfOk result (λ count. count < 2 ^ 62) }
+    ensures full { OnErr result (2 ^ 62 ≤ before
+        + (vec_len hosts.now.excluded_mail + vec_len hosts.now.excluded_hosts)) }
 {
     let more = hosts.excluded_mail.len() + hosts.excluded_hosts.len();
     match before.checked_add(more) {
@@ -86,7 +115,8 @@ impl<'a> HostConstraints<'a> {
             excluded_mail: Vec::new(alloc),
             excluded_hosts: Vec::new(alloc),
             excluded: 0,
-            uris: false,
+            constrains_mail: false,
+            constrains_uris: false,
         }
     }
 
@@ -101,20 +131,21 @@ impl<'a> HostConstraints<'a> {
         if has_no_base(hosts) {
             return Ok(());
         }
-        let mail = narrow_mail(alloc, &self.mail, &hosts.permitted_mail)?;
+        let addresses = narrow_mail(alloc, &self.mail, &hosts.permitted_mail)?;
         let permitted = narrow_hosts(alloc, &self.hosts, &hosts.permitted_hosts)?;
         let joined_mail = join_mail(alloc, &self.excluded_mail, &hosts.excluded_mail)?;
         let joined_hosts = join_hosts(alloc, &self.excluded_hosts, &hosts.excluded_hosts)?;
         let excluded = count_excluded(self.excluded, hosts)?;
         self.excluded_mail.reserve(1)?;
         self.excluded_hosts.reserve(1)?;
-        replace(&mut self.mail, mail);
+        replace(&mut self.mail, addresses);
         replace(&mut self.hosts, permitted);
         put(&mut self.excluded_mail, joined_mail);
         put(&mut self.excluded_hosts, joined_hosts);
         self.excluded = excluded;
-        let constrains = constrains_uris(hosts);
-        self.uris = self.uris | constrains;
+        let (mail, uris) = (constrains_mail(hosts), constrains_uris(hosts));
+        self.constrains_mail = self.constrains_mail | mail;
+        self.constrains_uris = self.constrains_uris | uris;
         Ok(())
     }
 }
@@ -142,10 +173,11 @@ impl HostConstraints<'_> {
             && excludes_no_host(&self.excluded_hosts, &hosts.hosts)
     }
 
-    /// Whether each URI of the certificate has a host that is a DNS name, if URIs are constrained (RFC 5280, 4.2.1.10).
+    /// Whether each mail address of the certificate is a mailbox, if mail addresses are constrained, and whether each of its URIs has a host
+    /// that is a fully qualified DNS name, if URIs are (RFC 5280, 4.2.1.10).
     pub fn finds_hosts(&self, hosts: &CertificateHosts<'_>) -> bool
         ensures { IsTrue result ↔ FindHosts self.now (seen_hosts hosts.now) }
     {
-        !self.uris || lacks_no_host(&hosts.hosts)
+        has_each_mailbox(self.constrains_mail, hosts) && has_each_host(self.constrains_uris, hosts)
     }
 }

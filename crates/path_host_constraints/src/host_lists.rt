@@ -4,8 +4,8 @@ ghost use Rattle.std.specs.Prelude.{◌≡◌, ◌↔◌, ◌≤◌, ◌<◌, �
 ghost use Rattle.std.specs.Option.{option_copied};
 ghost use Rattle.names_hosts.specs.Hosts.{host_names};
 ghost use Rattle.names_hosts.specs.HostLists.{HasHost};
-ghost use Rattle.path_host_constraints.specs.HostLists.{Enters, TakesHostsIf, SelectsHosts, NarrowsHosts, HostsLieIn, PermitsHostIn, PermitsFound, PermitsAllHosts, IsNarrowedHosts, ExcludesFound, ExcludesNoHost, HasEachHost};
-ghost use Rattle.path_host_constraints.specs.Lists.{members_of, left_of, changed, size_of};
+ghost use Rattle.path_host_constraints.specs.HostLists.{Enters, TakesHostsIf, SelectsHosts, NarrowsHosts, HostsLieIn, PermitsHostIn, PermitsFound, PermitsAllHosts, IsNarrowedHosts, ExcludesFound, ExcludesNoHost};
+ghost use Rattle.path_host_constraints.specs.Lists.{members_of, left_of, changed, size_of, HasEach};
 ghost use Rattle.path_host_constraints.specs.Indexes.{with_joined};
 
 use crate::indexes::Joined;
@@ -207,8 +207,8 @@ pub(crate) fn permits_all_hosts(list: &Option<HostIndex<'_>>, hosts: &[Option<&[
     true
 }
 
-/// How many of the indexes are left as they are if so many bases come. The others are joined with what comes, so that each index is at
-/// least twice as long as the next one, and they are few.
+/// How many of the indexes are left as they are if so many bases come; the others are joined with what comes. The shorter ones go, so that
+/// there are few.
 fn count_lasting(indexes: &[HostIndex<'_>], coming: usize) -> usize
     ensures { result ≤ length indexes.now }
 {
@@ -292,7 +292,7 @@ pub(crate) fn excludes_no_host(indexes: &[HostIndex<'_>], hosts: &[Option<&[u8]>
 
 /// Whether there is a host in place of each URI.
 pub(crate) fn lacks_no_host(hosts: &[Option<&[u8]>]) -> bool
-    ensures { IsTrue result ↔ HasEachHost (map option_copied hosts.now) }
+    ensures { IsTrue result ↔ HasEach (map option_copied hosts.now) }
 {
     for found in hosts {
         if found.is_none() {

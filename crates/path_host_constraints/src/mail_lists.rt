@@ -1,10 +1,10 @@
 //! Bases of constraints on mail addresses, narrowed and joined from certificate to certificate (RFC 5280, 6.1.4 (g)).
 
-ghost use Rattle.std.specs.Prelude.{◌≡◌, ◌↔◌, ◌≤◌, ◌<◌, ◌+◌, ◌^◌, ◌++◌, [], List, IsTrue, IfOk, OnOk, length, map};
+ghost use Rattle.std.specs.Prelude.{◌≡◌, ◌↔◌, ◌≤◌, ◌<◌, ◌+◌, ◌^◌, ◌++◌, [], List, IsTrue, IfOk, OnOk, length, map, option_map};
 ghost use Rattle.names_hosts.specs.Mail.{MailText, mail_text, mail_names};
 ghost use Rattle.names_hosts.specs.MailLists.{HasMail};
-ghost use Rattle.path_host_constraints.specs.MailLists.{Enters, TakesMailIf, SelectsMail, NarrowsMail, MailLieIn, PermitsMailIn, PermitsAllMail, IsNarrowedMail, ExcludesNoMail};
-ghost use Rattle.path_host_constraints.specs.Lists.{members_of, left_of, changed, size_of};
+ghost use Rattle.path_host_constraints.specs.MailLists.{Enters, TakesMailIf, SelectsMail, NarrowsMail, MailLieIn, PermitsMailIn, PermitsAllMail, PermitsFound, IsNarrowedMail, ExcludesFound, ExcludesNoMail};
+ghost use Rattle.path_host_constraints.specs.Lists.{members_of, left_of, changed, size_of, HasEach};
 ghost use Rattle.path_host_constraints.specs.Indexes.{with_joined};
 
 use crate::indexes::Joined;
@@ -184,20 +184,30 @@ fn permits_mail(list: &Option<MailIndex<'_>>, name: &MailName<'_>) -> bool
     }
 }
 
-/// Whether it has all of them.
-pub(crate) fn permits_all_mail(list: &Option<MailIndex<'_>>, names: &[MailName<'_>]) -> bool
-    ensures { IsTrue result ↔ PermitsAllMail list.now (map mail_text names.now) }
+/// Whether it has the mail address, if that is a mailbox.
+fn permits_found(list: &Option<MailIndex<'_>>, found: &Option<MailName<'_>>) -> bool
+    ensures { IsTrue result ↔ PermitsFound list.now (option_map mail_text found.now) }
 {
-    for name in names {
-        if !permits_mail(list, name) {
+    match found {
+        None => true,
+        Some(name) => permits_mail(list, name),
+    }
+}
+
+/// Whether it has all of them.
+pub(crate) fn permits_all_mail(list: &Option<MailIndex<'_>>, names: &[Option<MailName<'_>>]) -> bool
+    ensures { IsTrue result ↔ PermitsAllMail list.now (map (option_map mail_text) names.now) }
+{
+    for found in names {
+        if !permits_found(list, found) {
             return false;
         }
     }
     true
 }
 
-/// How many of the indexes are left as they are if so many bases come. The others are joined with what comes, so that each index is at
-/// least twice as long as the next one, and they are few.
+/// How many of the indexes are left as they are if so many bases come; the others are joined with what comes. The shorter ones go, so that
+/// there are few.
 fn count_lasting(indexes: &[MailIndex<'_>], coming: usize) -> usize
     ensures { result ≤ length indexes.now }
 {
@@ -256,12 +266,36 @@ fn excludes_mail(indexes: &[MailIndex<'_>], name: &MailName<'_>) -> bool
     false
 }
 
-/// Whether they have none of the mail addresses.
-pub(crate) fn excludes_no_mail(indexes: &[MailIndex<'_>], names: &[MailName<'_>]) -> bool
-    ensures { IsTrue result ↔ ExcludesNoMail (members_of indexes.now) (map mail_text names.now) }
+/// Whether one of them has the mail address, if that is a mailbox.
+fn excludes_found(indexes: &[MailIndex<'_>], found: &Option<MailName<'_>>) -> bool
+    ensures { IsTrue result
+        ↔ ExcludesFound (members_of indexes.now) (option_map mail_text found.now) }
 {
-    for name in names {
-        if excludes_mail(indexes, name) {
+    match found {
+        None => false,
+        Some(name) => excludes_mail(indexes, name),
+    }
+}
+
+/// Whether they have none of the mail addresses.
+pub(crate) fn excludes_no_mail(indexes: &[MailIndex<'_>], names: &[Option<MailName<'_>>]) -> bool
+    ensures { IsTrue result
+        ↔ ExcludesNoMail (members_of indexes.now) (map (option_map mail_text) names.now) }
+{
+    for found in names {
+        if excludes_found(indexes, found) {
+            return false;
+        }
+    }
+    true
+}
+
+/// Whether each of the mail addresses is a mailbox.
+pub(crate) fn are_mailboxes(names: &[Option<MailName<'_>>]) -> bool
+    ensures { IsTrue result ↔ HasEach (map (option_map mail_text) names.now) }
+{
+    for found in names {
+        if found.is_none() {
             return false;
         }
     }

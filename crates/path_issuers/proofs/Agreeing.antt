@@ -3,6 +3,7 @@ use Rattle.std.proofs.Common.{◌≡◌, ℕ, ℤ, List, [], ◌∷◌, ◌++◌
 use Rattle.std.proofs.Math.ListN.{get_or-eq_default}
 use Rattle.std.proofs.lemmas.List.{reverse-append}
 use Rattle.cert.specs.Certificate.{Certificate}
+use Rattle.path.specs.declared.options.Options.{Options}
 use Rattle.path.specs.Query.{Accepts}
 use Rattle.path_issuers.specs.Factors.{AreRight, Issues, IssuesFirst}
 use Rattle.path_issuers.specs.Links.{anchor_at, certificate_at}
@@ -16,11 +17,11 @@ use Rattle.path_issuers.proofs.Factoring.{valid_path_factors}
 
 -- what certificates meet that are in order down to a target depends on a verifier only as far as neighbours issue each other
 
-right_by : (one other : Accepts) (moment : ℤ) (purpose : Option (List ℕ)) (cs : List Certificate)
-    → AreRight one moment purpose cs → AreLinked other moment cs → AreRight other moment purpose cs
-right_by one other moment purpose [] right linked = right
-right_by one other moment purpose (c ∷ []) right linked = right
-right_by one other moment purpose (c ∷ next ∷ below) right linked = (
+right_by : (options : Options) (one other : Accepts) (moment : ℤ) (purpose : Option (List ℕ)) (cs : List Certificate)
+    → AreRight options one moment purpose cs → AreLinked options other moment cs → AreRight options other moment purpose cs
+right_by options one other moment purpose [] right linked = right
+right_by options one other moment purpose (c ∷ []) right linked = right
+right_by options one other moment purpose (c ∷ next ∷ below) right linked = (
   record {
     authority = right.0.authority;
     issues = linked.0.1;
@@ -28,12 +29,12 @@ right_by one other moment purpose (c ∷ next ∷ below) right linked = (
     length = right.0.length;
     names = right.0.names;
   },
-  right_by one other moment purpose (next ∷ below) right.1 linked.1,
+  right_by options one other moment purpose (next ∷ below) right.1 linked.1,
 )
 
 module _ (accepts : Accepts) (s : Search) where
-  linked_below : (cs : List Certificate) (c t : Certificate) → AreLinked accepts s.moment (cs ++ c ∷ []) → AreLinked accepts s.moment (c ∷ t ∷ [])
-      → AreLinked accepts s.moment (cs ++ c ∷ [] ++ t ∷ [])
+  linked_below : (cs : List Certificate) (c t : Certificate) → AreLinked s.options accepts s.moment (cs ++ c ∷ []) → AreLinked s.options accepts s.moment (c ∷ t ∷ [])
+      → AreLinked s.options accepts s.moment (cs ++ c ∷ [] ++ t ∷ [])
   linked_below [] c t linked last = last
   linked_below (x ∷ []) c t linked last = (linked.0, last)
   linked_below (x ∷ y ∷ cs) c t linked last = (linked.0, linked_below (y ∷ cs) c t linked.1 last)
@@ -45,7 +46,7 @@ module _ (accepts : Accepts) (s : Search) where
 
   -- of a chain the anchor issued the first, and each certificate the next one
   chained : (anchor below : ℕ) (above : List ℕ) → IsChain accepts s below above anchor
-      → IssuesFirst accepts (anchor_at s anchor) (from_top accepts s below above) × AreLinked accepts s.moment (from_top accepts s below above)
+      → IssuesFirst accepts (anchor_at s anchor) (from_top accepts s below above) × AreLinked s.options accepts s.moment (from_top accepts s below above)
   chained anchor below [] chain = (chain.issues, tt)
   chained anchor below (place ∷ above) chain =
       let c = certificate_at s place in
@@ -56,9 +57,9 @@ module _ (accepts : Accepts) (s : Search) where
       let whole : from_top accepts s below (place ∷ above) ≡ cs ++ c ∷ [] ++ t ∷ [] =
       reverse-append (t ∷ []) (c ∷ certificates_at s.target s.bag above) ∙ ap (λ (l : List Certificate). l ++ t ∷ []) part in
       let first = subst (λ (l : List Certificate). IssuesFirst accepts (anchor_at s anchor) l) part up.0 in
-      let linked = subst (λ (l : List Certificate). AreLinked accepts s.moment l) part up.1 in (
+      let linked = subst (λ (l : List Certificate). AreLinked s.options accepts s.moment l) part up.1 in (
         subst (λ (l : List Certificate). IssuesFirst accepts (anchor_at s anchor) l) (sym whole) (first_stays_below (anchor_at s anchor) cs c t first),
-        subst (λ (l : List Certificate). AreLinked accepts s.moment l) (sym whole)
+        subst (λ (l : List Certificate). AreLinked s.options accepts s.moment l) (sym whole)
             (linked_below cs c t linked ((chain.0.authority, chain.0.issues), tt)),
       )
 
@@ -92,10 +93,10 @@ module _ (one other : Accepts) (s : Search) (agree : (question : SearchQuestion)
       let target : certificate_at s bag ≡ s.target = get_or-eq_default s.bag s.target (omega arith) in
       let certificates = λ (t : Certificate). reverse (t ∷ certificates_at s.target s.bag c.above) in
       let first = subst (λ (t : Certificate). IssuesFirst other (anchor_at s c.anchor) (certificates t)) target parts.0 in
-      let linked = subst (λ (t : Certificate). AreLinked other s.moment (certificates t)) target parts.1 in
+      let linked = subst (λ (t : Certificate). AreLinked s.options other s.moment (certificates t)) target parts.1 in
       record {
         candidate = valid.candidate;
-        valid = (valid_path_factors other (query_about s c)).1 (factors.0, first, right_by one other s.moment s.purpose (certificates s.target) factors.2 linked);
+        valid = (valid_path_factors other (query_about s c)).1 (factors.0, first, right_by s.options one other s.moment s.purpose (certificates s.target) factors.2 linked);
       }
 
 pub questions_suffice : QuestionsSuffice

@@ -4,6 +4,7 @@ use Rattle.std.specs.List.{AllByRecursion, Contains}
 use Rattle.std.proofs.lemmas.List.{reverse-append}
 use Rattle.std.proofs.Math.ListN.{get_or-eq_default}
 use Rattle.cert.specs.Certificate.{Certificate}
+use Rattle.path.specs.declared.options.Options.{Options}
 use Rattle.path.specs.Query.{Accepts}
 use Rattle.path.specs.Conditions.{IsNamedByIssuer}
 use Rattle.path_issuers.specs.Factors.{IsRightAsAuthority, Issues, IssuesFirst, AreRight}
@@ -13,16 +14,16 @@ use Rattle.path_issuers.proofs.Factoring.{valid_path_factors}
 
 -- what neighbours meet, of certificates that are in order down to a target
 
-module _ (accepts : Accepts) (moment : ℤ) where
+module _ (options : Options) (accepts : Accepts) (moment : ℤ) where
   abbrev pub IssuesBelow : Certificate → Certificate → Type 0
-  IssuesBelow c next = IsRightAsAuthority moment c × Issues accepts c next
+  IssuesBelow c next = IsRightAsAuthority options moment c × Issues accepts c next
 
   abbrev pub AreLinked : List Certificate → Type 0
   AreLinked [] = Unit {0}
   AreLinked (c ∷ []) = Unit {0}
   AreLinked (c ∷ next ∷ below) = IssuesBelow c next × AreLinked (next ∷ below)
 
-  linked_from_right : (purpose : Option (List ℕ)) (cs : List Certificate) → AreRight accepts moment purpose cs → AreLinked cs
+  linked_from_right : (purpose : Option (List ℕ)) (cs : List Certificate) → AreRight options accepts moment purpose cs → AreLinked cs
   linked_from_right purpose [] right = tt
   linked_from_right purpose (c ∷ []) right = tt
   linked_from_right purpose (c ∷ next ∷ below) right = ((right.0.authority, right.0.issues), linked_from_right purpose (next ∷ below) right.1)
@@ -52,7 +53,7 @@ module _ (accepts : Accepts) (s : Search) where
   from_top below above = reverse (certificate_at s below ∷ certificates_at s.target s.bag above)
 
   chain_at : (anchor : ℕ) → anchor < length s.anchors → (below : ℕ) (above : List ℕ) → AllByRecursion (λ place. place < length s.bag) above
-      → IssuesFirst accepts (anchor_at s anchor) (from_top below above) → AreLinked accepts s.moment (from_top below above) → IsChain below above anchor
+      → IssuesFirst accepts (anchor_at s anchor) (from_top below above) → AreLinked s.options accepts s.moment (from_top below above) → IsChain below above anchor
   chain_at anchor there below [] all issues linked = record { there = there; issues = issues }
   chain_at anchor there below (place ∷ above) all issues linked =
       let c = certificate_at s place in
@@ -62,13 +63,13 @@ module _ (accepts : Accepts) (s : Search) where
       reverse-append (t ∷ []) (c ∷ certificates_at s.target s.bag above) ∙ ap (λ (l : List Certificate). l ++ t ∷ []) (reverse-append (c ∷ []) (certificates_at s.target s.bag above)) in
       let part : cs ++ c ∷ [] ≡ from_top place above = sym (reverse-append (c ∷ []) (certificates_at s.target s.bag above)) in
       let issues_whole = subst (λ (l : List Certificate). IssuesFirst accepts (anchor_at s anchor) l) whole issues in
-      let linked_whole = subst (λ (l : List Certificate). AreLinked accepts s.moment l) whole linked in
-      let one = last_two accepts s.moment cs c t linked_whole in (
+      let linked_whole = subst (λ (l : List Certificate). AreLinked s.options accepts s.moment l) whole linked in
+      let one = last_two s.options accepts s.moment cs c t linked_whole in (
         record { there = all.0; authority = one.0; issues = one.1 },
         chain_at anchor there place above all.1
             (subst (λ (l : List Certificate). IssuesFirst accepts (anchor_at s anchor) l) part
-            (first_stays accepts s.moment (anchor_at s anchor) cs c t issues_whole))
-            (subst (λ (l : List Certificate). AreLinked accepts s.moment l) part (without_last accepts s.moment (cs ++ c ∷ []) t linked_whole)),
+            (first_stays s.options accepts s.moment (anchor_at s anchor) cs c t issues_whole))
+            (subst (λ (l : List Certificate). AreLinked s.options accepts s.moment l) part (without_last s.options accepts s.moment (cs ++ c ∷ []) t linked_whole)),
       )
 
   -- a valid candidate is such a chain
@@ -79,8 +80,8 @@ module _ (accepts : Accepts) (s : Search) where
       let certificates = λ (t : Certificate). reverse (t ∷ certificates_at s.target s.bag c.above) in
       chain_at c.anchor valid.candidate.anchor (length s.bag) c.above valid.candidate.above
       (subst (λ (t : Certificate). IssuesFirst accepts (anchor_at s c.anchor) (certificates t)) target factors.1)
-      (subst (λ (t : Certificate). AreLinked accepts s.moment (certificates t)) target
-      (linked_from_right accepts s.moment s.purpose (certificates s.target) factors.2))
+      (subst (λ (t : Certificate). AreLinked s.options accepts s.moment (certificates t)) target
+      (linked_from_right s.options accepts s.moment s.purpose (certificates s.target) factors.2))
 
   -- the links of a chain are recorded: those that lead to the target by names have their anchors, those with an anchor are reached, and
   -- each that is reached has whom it issued linked and reached

@@ -114,7 +114,7 @@ module _ (accepts : Accepts) (s : Search) (naming : Naming) (is : IsNaming s nam
         ascending = λ k within. absurd (omega arith);
       }
 
-  pub picked_issued : (place : ℕ) → place < length s.bag → IsRightAsAuthority s.moment (certificate_at s place) → (issued : List ℕ)
+  pub picked_issued : (place : ℕ) → place < length s.bag → IsRightAsAuthority s.options s.moment (certificate_at s place) → (issued : List ℕ)
       → ArePicked (IsSought accepts s (IssuedBy place)) (named_by naming place) issued → AreIssuedBy accepts s naming place issued
   picked_issued place there right issued picked = record {
     each = λ below among. let pass = picked.pass below among in (is.named_within below place pass.0, record { there = there; authority = right; issues = pass.1 });

@@ -4,28 +4,30 @@ use Rattle.std.specs.List.{AllByRecursion}
 use Rattle.std.proofs.lemmas.List.{get_or_default}
 use Rattle.cert.specs.Certificate.{Certificate, is_self_issued}
 use Rattle.path_conditions.specs.CertificateConditions.{path_length_of}
+use Rattle.path.specs.declared.options.Options.{Options}
 use Rattle.path.specs.Query.{Query, certificate_numbered}
 use Rattle.path.specs.Conditions.{AreNamesChecked, IsWithinPathLength, others_between}
 
 -- the question about certificates under an anchor
-abbrev pub under : ℤ → Option (List ℕ) → Certificate → List Certificate → Query
-under moment purpose anchor certificates = record {
+abbrev pub under : Options → ℤ → Option (List ℕ) → Certificate → List Certificate → Query
+under options moment purpose anchor certificates = record {
   anchor = anchor;
   certificates = certificates;
   moment = moment;
   purpose = purpose;
+  options = options;
 }
 
 -- what certificate j has to meet with each earlier one
 abbrev pub WithEarlier : (Certificate → Certificate → Type 0) → Query → ℕ → Type 0
 WithEarlier R q j = (i : ℕ) → 1 ≤ i → i < j → R (certificate_numbered q i) (certificate_numbered q j)
 
-module _ (moment : ℤ) (purpose : Option (List ℕ)) (a c : Certificate) (cs : List Certificate) where
+module _ (options : Options) (moment : ℤ) (purpose : Option (List ℕ)) (a c : Certificate) (cs : List Certificate) where
   abbrev whole : Query
-  whole = under moment purpose a (c ∷ cs)
+  whole = under options moment purpose a (c ∷ cs)
 
   abbrev rest : Query
-  rest = under moment purpose c cs
+  rest = under options moment purpose c cs
 
   pub at_next : (j : ℕ) → j ≤ length cs → certificate_numbered whole (suc j) ≡ certificate_numbered rest j
   at_next j h = get_or_default (c ∷ cs) j a c (omega arith)
@@ -76,20 +78,20 @@ module _ (moment : ℤ) (purpose : Option (List ℕ)) (a c : Certificate) (cs : 
   path_length_before j h first f (suc (suc i)) most l below lim =
       f (suc i) most (omega arith) (omega arith) (ap (λ x. path_length_of x) (sym (at_next (suc i) (omega arith))) ∙ lim)
 
-module _ (moment : ℤ) (purpose : Option (List ℕ)) where
+module _ (options : Options) (moment : ℤ) (purpose : Option (List ℕ)) where
   -- what holds of each certificate by its number holds of all of the list
   pub all_to : (P : Certificate → Type 0) (a : Certificate) (cs : List Certificate)
-      → ((j : ℕ) → 1 ≤ j → j ≤ length cs → P (certificate_numbered (under moment purpose a cs) j)) → AllByRecursion P cs
+      → ((j : ℕ) → 1 ≤ j → j ≤ length cs → P (certificate_numbered (under options moment purpose a cs) j)) → AllByRecursion P cs
   all_to P a [] f = tt
   all_to P a (c ∷ cs) f = (
     f 1 (omega arith) (omega arith),
-    all_to P c cs (λ j l h. subst P (at_next moment purpose a c cs j h) (f (suc j) (omega arith) (omega arith))),
+    all_to P c cs (λ j l h. subst P (at_next options moment purpose a c cs j h) (f (suc j) (omega arith) (omega arith))),
   )
 
   pub all_from : (P : Certificate → Type 0) (a : Certificate) (cs : List Certificate)
-      → AllByRecursion P cs → (j : ℕ) → 1 ≤ j → j ≤ length cs → P (certificate_numbered (under moment purpose a cs) j)
+      → AllByRecursion P cs → (j : ℕ) → 1 ≤ j → j ≤ length cs → P (certificate_numbered (under options moment purpose a cs) j)
   all_from P a [] all j l h = absurd (omega arith)
   all_from P a (c ∷ cs) all zero l h = absurd (omega arith)
   all_from P a (c ∷ cs) all (suc zero) l h = all.0
   all_from P a (c ∷ cs) all (suc (suc j)) l h =
-      subst P (sym (at_next moment purpose a c cs (suc j) (omega arith))) (all_from P c cs all.1 (suc j) (omega arith) (omega arith))
+      subst P (sym (at_next options moment purpose a c cs (suc j) (omega arith))) (all_from P c cs all.1 (suc j) (omega arith) (omega arith))

@@ -4,25 +4,26 @@ use Rattle.std.specs.Prelude.{◌≡◌, ◌≢◌, ◌↔◌, ◌≤◌, ◌-�
 use Rattle.std.specs.List.{AllByRecursion}
 use Rattle.cert.specs.Certificate.{Certificate, is_self_issued}
 use Rattle.path_conditions.specs.CertificateConditions.{HasBegun, HasNotExpired, IsCa, path_length_of, MaySignCertificates, NeedsNoPolicyTree, CriticalExtensionsAreKnown, AllowsPurpose}
+use Rattle.path.specs.declared.options.Options.{Options}
 use Rattle.path.specs.Conditions.{ConstrainNoOtherForm, ExcludeNoName, IsNamedByIssuer, IsSignedByIssuer, PermitNames}
 use Rattle.path.specs.Query.{Accepts, Query}
 use Rattle.path.specs.Validity.{IsServed, IsValidPath}
 
 -- what each certificate of a path meets alone
-pub record IsRightAlone (moment : ℤ) (c : Certificate) : Type 0 where
+pub record IsRightAlone (options : Options) (moment : ℤ) (c : Certificate) : Type 0 where
   pub begun : HasBegun c moment
   pub not_expired : HasNotExpired c moment
   pub policy : NeedsNoPolicyTree c
-  pub known : CriticalExtensionsAreKnown c
+  pub known : CriticalExtensionsAreKnown options.profile c
 
 -- the target, which is the last one
-pub record IsRightAsTarget (moment : ℤ) (purpose : Option (List ℕ)) (c : Certificate) : Type 0 where
-  pub alone : IsRightAlone moment c
-  pub allowed : AllowsPurpose c purpose
+pub record IsRightAsTarget (options : Options) (moment : ℤ) (purpose : Option (List ℕ)) (c : Certificate) : Type 0 where
+  pub alone : IsRightAlone options moment c
+  pub allowed : AllowsPurpose options.profile c purpose
 
 -- each other one, an authority
-pub record IsRightAsAuthority (moment : ℤ) (c : Certificate) : Type 0 where
-  pub alone : IsRightAlone moment c
+pub record IsRightAsAuthority (options : Options) (moment : ℤ) (c : Certificate) : Type 0 where
+  pub alone : IsRightAlone options moment c
   pub ca : IsCa c
   pub may_sign : MaySignCertificates c
 
@@ -65,19 +66,19 @@ abbrev pub Lacks : List ℕ → List Certificate → Type 0
 Lacks octets certificates = AllByRecursion (λ c. c.octets ≢ octets) certificates
 
 -- the certificate is right above others that are in order down to a target
-pub record IsRightAbove (accepts : Accepts) (moment : ℤ) (c : Certificate) (below : List Certificate) : Type 0 where
-  pub authority : IsRightAsAuthority moment c
+pub record IsRightAbove (options : Options) (accepts : Accepts) (moment : ℤ) (c : Certificate) (below : List Certificate) : Type 0 where
+  pub authority : IsRightAsAuthority options moment c
   pub issues : IssuesFirst accepts c below
   pub different : Lacks c.octets below
   pub length : AllowsLength c below
   pub names : AdmitNamesBelow c below
 
 -- certificates in order down to a target are right, whatever stands above them
-abbrev pub AreRight : Accepts → ℤ → Option (List ℕ) → List Certificate → Type 0
-AreRight accepts moment purpose [] = ⊥
-AreRight accepts moment purpose (target ∷ []) = IsRightAsTarget moment purpose target
-AreRight accepts moment purpose (c ∷ next ∷ below) =
-    IsRightAbove accepts moment c (next ∷ below) × AreRight accepts moment purpose (next ∷ below)
+abbrev pub AreRight : Options → Accepts → ℤ → Option (List ℕ) → List Certificate → Type 0
+AreRight options accepts moment purpose [] = ⊥
+AreRight options accepts moment purpose (target ∷ []) = IsRightAsTarget options moment purpose target
+AreRight options accepts moment purpose (c ∷ next ∷ below) =
+    IsRightAbove options accepts moment c (next ∷ below) × AreRight options accepts moment purpose (next ∷ below)
 
 -- laws
 
@@ -86,11 +87,11 @@ abbrev pub ValidPathFactors : Type 0
 ValidPathFactors =
     (accepts : Accepts) (q : Query) →
     IsValidPath accepts q
-    ↔ (IsServed q × IssuesFirst accepts q.anchor q.certificates × AreRight accepts q.moment q.purpose q.certificates)
+    ↔ (IsServed q × IssuesFirst accepts q.anchor q.certificates × AreRight q.options accepts q.moment q.purpose q.certificates)
 
 -- the last certificates of a valid path are right
 abbrev pub TailIsRight : Type 0
 TailIsRight =
     (accepts : Accepts) (q : Query) (above below : List Certificate) →
     IsValidPath accepts q → q.certificates ≡ above ++ below → below ≢ [] →
-    AreRight accepts q.moment q.purpose below
+    AreRight q.options accepts q.moment q.purpose below

@@ -34,7 +34,7 @@ anchor_at s place = slice_index_or s.anchors place s.target
 -- at the place stands an authority of the bag that issued the certificate
 pub record IsIssuer (accepts : Accepts) (s : Search) (below place : ℕ) : Type 0 where
   pub there : place < length s.bag
-  pub authority : IsRightAsAuthority s.moment (certificate_at s place)
+  pub authority : IsRightAsAuthority s.options s.moment (certificate_at s place)
   pub issues : Issues accepts (certificate_at s place) (certificate_at s below)
 
 -- at the place stands an anchor that issued the certificate

@@ -2,6 +2,7 @@
 use Rattle.std.specs.Prelude.{◌≡◌, ◌⊎◌, ◌<◌, ℕ, ℤ, List, [], ◌∷◌, ◌++◌, Option, length, map, reverse, slice_index_or}
 use Rattle.std.specs.List.{AllByRecursion}
 use Rattle.cert.specs.Certificate.{Certificate}
+use Rattle.path.specs.declared.options.Options.{Options}
 use Rattle.path.specs.Query.{Accepts, Query}
 use Rattle.path.specs.Validity.{IsValidPath}
 
@@ -14,6 +15,8 @@ pub record Search : Type 0 where
   pub moment : ℤ
   -- the contents of an OBJECT IDENTIFIER
   pub purpose : Option (List ℕ)
+  -- what is asked for besides
+  pub options : Options
 
 -- A candidate: the place of its anchor, and the places in the bag of the certificates above the target, from the target upward.
 pub record Candidate : Type 0 where
@@ -40,6 +43,7 @@ query_about s c = record {
   certificates = path_down_to s.target s.bag c.above;
   moment = s.moment;
   purpose = s.purpose;
+  options = s.options;
 }
 
 -- its path is valid (RFC 5280, 6.1)

@@ -31,7 +31,7 @@ pub record AreSigners (accepts : Accepts) (s : Search) (signers : List (List ℕ
 
 -- an authority stands at the place
 abbrev pub IsAuthorityAt : Search → ℕ → Type 0
-IsAuthorityAt s place = IsRightAsAuthority s.moment (certificate_at s place)
+IsAuthorityAt s place = IsRightAsAuthority s.options s.moment (certificate_at s place)
 
 -- each link says who issued whom, and no authority is missing above a certificate that leads to the target by names
 pub record AreAuthorityLinks (accepts : Accepts) (s : Search) (links : Links) : Type 0 where

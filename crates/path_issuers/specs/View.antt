@@ -12,4 +12,5 @@ seen_search search = record {
   target = seen_certificate search.target.now;
   moment = search.moment;
   purpose = option_copied search.purpose;
+  options = search.options;
 }

@@ -6,6 +6,7 @@ ghost use Rattle.cert.specs.Certificate.{seen_certificate};
 ghost use Rattle.path_issuers.specs.Factors.{Issues, IsRightAlone, IsRightAsAuthority, IsRightAsTarget};
 
 use cert::Certificate;
+use path::Options;
 use path_conditions::{
     allows_purpose, are_critical_extensions_known, has_begun, has_not_expired, is_ca,
     may_sign_certificates, needs_no_policy_tree,
@@ -13,13 +14,13 @@ use path_conditions::{
 use path_verifiers::Verifier;
 
 /// Whether the certificate may stand in a path, by itself.
-fn is_right_alone(certificate: &Certificate<'_>, moment: i64) -> bool
-    ensures { IsTrue result ↔ IsRightAlone moment (seen_certificate certificate.now) }
+fn is_right_alone(certificate: &Certificate<'_>, moment: i64, options: Options) -> bool
+    ensures { IsTrue result ↔ IsRightAlone options moment (seen_certificate certificate.now) }
 {
     has_begun(certificate, moment)
         && has_not_expired(certificate, moment)
         && needs_no_policy_tree(certificate)
-        && are_critical_extensions_known(certificate)
+        && are_critical_extensions_known(options.profile, certificate)
 }
 
 /// Whether the certificate may stand at the end of a path, by itself.
@@ -27,18 +28,24 @@ pub fn is_right_as_target(
     certificate: &Certificate<'_>,
     moment: i64,
     purpose: Option<&[u8]>,
+    options: Options,
 ) -> bool
     ensures { IsTrue result
-        ↔ IsRightAsTarget moment (option_copied purpose.entry) (seen_certificate certificate.now) }
+        ↔ IsRightAsTarget options moment (option_copied purpose.entry)
+        (seen_certificate certificate.now) }
 {
-    is_right_alone(certificate, moment) && allows_purpose(certificate, purpose)
+    is_right_alone(certificate, moment, options)
+        && allows_purpose(options.profile, certificate, purpose)
 }
 
 /// Whether the certificate may stand above others in a path, by itself.
-pub fn is_right_as_authority(certificate: &Certificate<'_>, moment: i64) -> bool
-    ensures { IsTrue result ↔ IsRightAsAuthority moment (seen_certificate certificate.now) }
+pub fn is_right_as_authority(certificate: &Certificate<'_>, moment: i64, options: Options) -> bool
+    ensures { IsTrue result
+        ↔ IsRightAsAuthority options moment (seen_certificate certificate.now) }
 {
-    is_right_alone(certificate, moment) && is_ca(certificate) && may_sign_certificates(certificate)
+    is_right_alone(certificate, moment, options)
+        && is_ca(certificate)
+        && may_sign_certificates(certificate)
 }
 
 /// Whether the first certificate issued the second: it has the name of the issuer, and its key accepts the signature (RFC 5280, 6.1.3 (a)

@@ -50,9 +50,10 @@ pub(crate) fn anchors_of_all<V: Verifier>(
 /// Whether the certificate may stand above others in a path, by itself.
 fn is_authority(search: &Search<'_, '_>, certificate: &Certificate<'_>) -> bool
     ensures { IsTrue result
-        ↔ IsRightAsAuthority (seen_search search.now).moment (seen_certificate certificate.now) }
+        ↔ IsRightAsAuthority (seen_search search.now).options (seen_search search.now).moment
+        (seen_certificate certificate.now) }
 {
-    is_right_as_authority(certificate, search.moment)
+    is_right_as_authority(certificate, search.moment, search.options)
 }
 
 /// The certificates that lead to the target by names and were issued by the one at the place; none if that is no authority.

@@ -22,6 +22,7 @@ pub use linking::link;
 pub use links::Links;
 pub use lists::list_at;
 pub use matching::{question_laws, questions};
+pub use path::Options;
 pub use question::{Issuer, SearchQuestion};
 pub use search::Search;
 pub use upward::{link_authorities, signers};

@@ -1,6 +1,7 @@
 //! What is searched.
 
 use cert::Certificate;
+use path::Options;
 
 /// Certificates that come in any order, and what is asked about one of them.
 #[derive(Clone, Copy)]
@@ -14,4 +15,6 @@ pub struct Search<'p, 'c> {
     pub moment: i64,
     /// The contents of an OBJECT IDENTIFIER.
     pub purpose: Option<&'p [u8]>,
+    /// What is asked for besides.
+    pub options: Options,
 }

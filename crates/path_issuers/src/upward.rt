@@ -71,7 +71,7 @@ pub fn signers<V: Verifier>(
 fn is_authority_at(search: &Search<'_, '_>, place: usize) -> bool
     ensures { IsTrue result ↔ IsAuthorityAt (seen_search search.now) place }
 {
-    is_right_as_authority(search.certificate_at(place), search.moment)
+    is_right_as_authority(search.certificate_at(place), search.moment, search.options)
 }
 
 /// Of the places, those of authorities.

@@ -30,25 +30,25 @@ module _ (accepts : Accepts) (s : Search) where
   top above = certificate_at s (top_of (length s.bag) above)
 
   abbrev Right : List Certificate → Type 0
-  Right certificates = AreRight accepts s.moment s.purpose certificates
+  Right certificates = AreRight s.options accepts s.moment s.purpose certificates
 
   pub front_is_tail : (above : List ℕ) (k : ℕ) → IsRightTail accepts s above → IsRightTail accepts s (take k above)
   front_is_tail above k tail = record {
     there = all_take (λ place. place < length s.bag) k above tail.there;
-    right = tail_right accepts s.moment s.purpose (reverse (certificates_at s.target s.bag (drop k above))) (path (take k above))
+    right = tail_right s.options accepts s.moment s.purpose (reverse (certificates_at s.target s.bag (drop k above))) (path (take k above))
         (subst Right (path_split accepts s above k) tail.right) (path_some accepts s (take k above));
   }
 
-  pub target_of_tail : (above : List ℕ) → IsRightTail accepts s above → IsRightAsTarget s.moment s.purpose s.target
+  pub target_of_tail : (above : List ℕ) → IsRightTail accepts s above → IsRightAsTarget s.options s.moment s.purpose s.target
   target_of_tail above tail = (front_is_tail above 0 tail).right
 
-  right_first : (c first : Certificate) (rest : List Certificate) → Right (c ∷ first ∷ rest) → IsRightAbove accepts s.moment c (first ∷ rest)
+  right_first : (c first : Certificate) (rest : List Certificate) → Right (c ∷ first ∷ rest) → IsRightAbove s.options accepts s.moment c (first ∷ rest)
   right_first c first rest right = right.0
 
-  right_at_top : (c : Certificate) (above : List ℕ) → Right (c ∷ path above) → IsRightAbove accepts s.moment c (path above)
+  right_at_top : (c : Certificate) (above : List ℕ) → Right (c ∷ path above) → IsRightAbove s.options accepts s.moment c (path above)
   right_at_top c above =
       let of = path_top s above in
-      subst (λ l. Right (c ∷ l) → IsRightAbove accepts s.moment c l) (sym of.1) (right_first c (top above) of.0)
+      subst (λ l. Right (c ∷ l) → IsRightAbove s.options accepts s.moment c l) (sym of.1) (right_first c (top above) of.0)
 
   issues_first : (c first : Certificate) (rest : List Certificate) → IssuesFirst accepts c (first ∷ rest) → Issues accepts c first
   issues_first c first rest issues = issues
@@ -59,11 +59,11 @@ module _ (accepts : Accepts) (s : Search) where
       subst (λ l. IssuesFirst accepts c l → Issues accepts c (top above)) (sym of.1) (issues_first c (top above) of.0)
 
   -- the last certificate of a tail is right above the others
-  pub right_last : (above : List ℕ) (place : ℕ) → Right (path (above ++ place ∷ [])) → IsRightAbove accepts s.moment (certificate_at s place) (path above)
+  pub right_last : (above : List ℕ) (place : ℕ) → Right (path (above ++ place ∷ [])) → IsRightAbove s.options accepts s.moment (certificate_at s place) (path above)
   right_last above place right = right_at_top (certificate_at s place) above (subst Right (tail_grows s.target s.bag above place) right)
 
   pub right_next : (above : List ℕ) (k : ℕ) → IsRightTail accepts s above → k < length above
-      → IsRightAbove accepts s.moment (certificate_at s (get_or above k 0)) (path (take k above))
+      → IsRightAbove s.options accepts s.moment (certificate_at s (get_or above k 0)) (path (take k above))
   right_next above k tail h =
       right_last (take k above) (get_or above k 0) (subst (λ l. Right (path l)) (take_more above k 0 h) (front_is_tail above (k + 1) tail).right)
 

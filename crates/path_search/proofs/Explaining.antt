@@ -30,7 +30,7 @@ use Rattle.path_search.proofs.Walking.{grown_is_tail, is_valid, path_length}
 
 -- a target is right exactly if it meets all conditions
 
-meets_as_target : (s : Search) → HasRightTarget s → MeetsEach (MeetsAsTarget s.moment s.purpose s.target)
+meets_as_target : (s : Search) → HasRightTarget s → MeetsEach (MeetsAsTarget s.options s.moment s.purpose s.target)
 meets_as_target s right Repeated = tt
 meets_as_target s right Signature = tt
 meets_as_target s right NotYet = right.alone.begun
@@ -125,7 +125,7 @@ module _ (accepts : Accepts) (s : Search) (above : List ℕ) where
       → AdmitNamesBelow c path → HoldsOfNamed (P c) path
   names_meet c P f names = hold_each (P c) (AdmitNames c) f path names
 
-  meets_if_right : (place : ℕ) → length path < 128 → IsRightAbove accepts s.moment (certificate_at s place) path
+  meets_if_right : (place : ℕ) → length path < 128 → IsRightAbove s.options accepts s.moment (certificate_at s place) path
       → Issues accepts (certificate_at s place) top → MeetsEach (Meets place)
   meets_if_right place room right issues Repeated = right.different
   meets_if_right place room right issues Signature = issues.signed
@@ -177,7 +177,7 @@ module _ (accepts : Accepts) (s : Search) (above : List ℕ) where
     not_all : (place : ℕ) → IsNamedAmong s.bag top place → ¬ MeetsEach (MeetsBySigners s above signed_by place)
     not_all place named meets =
         let f = signs place named in
-        let tail = longer_tail place furthest.tail named (λ r. meets_by (Contains signed_by place)
+        let tail = longer_tail place furthest.tail named (λ r. meets_by s.options (Contains signed_by place)
         (IsSignedByIssuer accepts top (certificate_at s place).key_info.value.octets) f.0 s.moment (certificate_at s place) path r (meets r)) in
         omega (arith, furthest.longest (above ++ place ∷ []) tail, length_push above place)
 
@@ -194,8 +194,8 @@ module _ (accepts : Accepts) (s : Search) (above : List ℕ) where
           let among = contains_place obstacles k d h in
           let f = signs o.place (named.each o.place (unmet.places.pass o.place among).0) in
           first_of (MeetsBySigners s above signed_by o.place) (Meets o.place)
-          (meets_by (Contains signed_by o.place) (IsSignedByIssuer accepts top (certificate_at s o.place).key_info.value.octets) f.0 s.moment (certificate_at s o.place) path)
-          (meets_by (IsSignedByIssuer accepts top (certificate_at s o.place).key_info.value.octets) (Contains signed_by o.place) f.1 s.moment (certificate_at s o.place) path)
+          (meets_by s.options (Contains signed_by o.place) (IsSignedByIssuer accepts top (certificate_at s o.place).key_info.value.octets) f.0 s.moment (certificate_at s o.place) path)
+          (meets_by s.options (IsSignedByIssuer accepts top (certificate_at s o.place).key_info.value.octets) (Contains signed_by o.place) f.1 s.moment (certificate_at s o.place) path)
           o.reason (unmet.reasons k d h);
     }
 

@@ -2,6 +2,7 @@
 use Rattle.std.proofs.Common.{◌≡◌, ◌↔◌, ◌+◌, ◌<◌, ◌≤◌, ℕ, ℤ, List, [], ◌∷◌, Option, Some, None, MatchOption, length, get_or, arith, refl, ap, sym, ◌∙◌, subst, inl, inr, zero, suc}
 use Rattle.std.proofs.lemmas.Bool.{cases_order}
 use Rattle.cert.specs.Certificate.{Certificate}
+use Rattle.path.specs.declared.options.Options.{Options}
 use Rattle.path.specs.declared.reason.Reason.{Reason}
 use Rattle.path.specs.declared.reason.Reason.TheVariants.{Repeated, Signature, NotYet, Expired, Issuer, NotPermitted, Excluded, ConstraintForm, NotCa, PathLength, KeyCertSign, Policy, CriticalUnknown, Purpose, Empty, TooLong, NoValidPolicy, AnyPolicyMapped, NoUserPolicy}
 use Rattle.path.specs.Reason.{reason_rank}
@@ -101,8 +102,8 @@ pub first_of : (Meets Others : Reason → Type 0) → ((r : Reason) → Meets r 
     → IsFirstUnmet Meets r → IsFirstUnmet Others r
 first_of Meets Others to from r first = record { broken = λ met. first.broken (from r met); lesser = λ other less. to other (first.lesser other less) }
 
-module _ (A B : Type 0) (f : A → B) (moment : ℤ) (c : Certificate) (below : List Certificate) where
-  pub meets_by : (r : Reason) → MeetsAbove A moment c below r → MeetsAbove B moment c below r
+module _ (options : Options) (A B : Type 0) (f : A → B) (moment : ℤ) (c : Certificate) (below : List Certificate) where
+  pub meets_by : (r : Reason) → MeetsAbove options A moment c below r → MeetsAbove options B moment c below r
   meets_by Repeated met = met
   meets_by Signature met = f met
   meets_by NotYet met = met
@@ -124,9 +125,9 @@ module _ (A B : Type 0) (f : A → B) (moment : ℤ) (c : Certificate) (below : 
   meets_by NoUserPolicy met = met
 
 -- the first one by the answers to a question that is as strong
-pub unmet_by : (A B : Type 0) → A ↔ B → (moment : ℤ) (c : Certificate) (below : List Certificate) (unmet : Option Reason)
-    → MatchOption unmet (MeetsEach (MeetsAbove A moment c below)) (IsFirstUnmet (MeetsAbove A moment c below))
-    → MatchOption unmet (MeetsEach (MeetsAbove B moment c below)) (IsFirstUnmet (MeetsAbove B moment c below))
-unmet_by A B f moment c below None all = λ r. meets_by A B f.0 moment c below r (all r)
-unmet_by A B f moment c below (Some r) first =
-    first_of (MeetsAbove A moment c below) (MeetsAbove B moment c below) (meets_by A B f.0 moment c below) (meets_by B A f.1 moment c below) r first
+pub unmet_by : (options : Options) (A B : Type 0) → A ↔ B → (moment : ℤ) (c : Certificate) (below : List Certificate) (unmet : Option Reason)
+    → MatchOption unmet (MeetsEach (MeetsAbove options A moment c below)) (IsFirstUnmet (MeetsAbove options A moment c below))
+    → MatchOption unmet (MeetsEach (MeetsAbove options B moment c below)) (IsFirstUnmet (MeetsAbove options B moment c below))
+unmet_by options A B f moment c below None all = λ r. meets_by options A B f.0 moment c below r (all r)
+unmet_by options A B f moment c below (Some r) first =
+    first_of (MeetsAbove options A moment c below) (MeetsAbove options B moment c below) (meets_by options A B f.0 moment c below) (meets_by options B A f.1 moment c below) r first

@@ -72,31 +72,31 @@ module _ (accepts : Accepts) (s : Search) where
   pub path_some : (above : List ℕ) → path above ≢ []
   path_some above none = let top = path_top s above in cc
 
-  front_is_right : (c : Candidate) (k : ℕ) → IsValidCandidate accepts s c → AreRight accepts s.moment s.purpose (path (take k c.above))
+  front_is_right : (c : Candidate) (k : ℕ) → IsValidCandidate accepts s c → AreRight s.options accepts s.moment s.purpose (path (take k c.above))
   front_is_right c k valid =
       tail_is_right accepts (query_about s c) (reverse (certificates_at s.target s.bag (drop k c.above))) (path (take k c.above))
       valid.valid (path_split c.above k) (path_some (take k c.above))
 
-  fits_first : (c first : Certificate) (rest : List Certificate) → AreRight accepts s.moment s.purpose (c ∷ first ∷ rest) → FitsAbove c (first ∷ rest)
+  fits_first : (c first : Certificate) (rest : List Certificate) → AreRight s.options accepts s.moment s.purpose (c ∷ first ∷ rest) → FitsAbove c (first ∷ rest)
   fits_first c first rest right = record { different = right.0.different; length = right.0.length; names = right.0.names }
 
-  fits : (c : Certificate) (above : List ℕ) → AreRight accepts s.moment s.purpose (c ∷ path above) → FitsAbove c (path above)
+  fits : (c : Certificate) (above : List ℕ) → AreRight s.options accepts s.moment s.purpose (c ∷ path above) → FitsAbove c (path above)
   fits c above =
       let top = path_top s above in
-      subst (λ l. AreRight accepts s.moment s.purpose (c ∷ l) → FitsAbove c l) (sym top.1) (fits_first c (certificate_at s (top_of (length s.bag) above)) top.0)
+      subst (λ l. AreRight s.options accepts s.moment s.purpose (c ∷ l) → FitsAbove c l) (sym top.1) (fits_first c (certificate_at s (top_of (length s.bag) above)) top.0)
 
   -- the next certificate of a valid candidate may stand above its front
   pub next_may_stand : (c : Candidate) (k : ℕ) → IsValidCandidate accepts s c → k < length c.above → MayStandAbove s (take k c.above) (get_or c.above k 0)
   next_may_stand c k valid h = record {
     there = All-from_recursion (λ place. place < length s.bag) c.above valid.candidate.above k 0 h;
     fits = fits (certificate_at s (get_or c.above k 0)) (take k c.above)
-        (subst (AreRight accepts s.moment s.purpose)
+        (subst (AreRight s.options accepts s.moment s.purpose)
         (ap path (take_more c.above k 0 h) ∙ tail_grows s.target s.bag (take k c.above) (get_or c.above k 0))
         (front_is_right c (k + 1) valid));
   }
 
   -- a valid candidate's target is right
-  pub target_is_right : (c : Candidate) → IsValidCandidate accepts s c → IsRightAsTarget s.moment s.purpose s.target
+  pub target_is_right : (c : Candidate) → IsValidCandidate accepts s c → IsRightAsTarget s.options s.moment s.purpose s.target
   target_is_right c valid = front_is_right c 0 valid
 
   above_short : (c : Candidate) → IsValidCandidate accepts s c → length c.above ≤ 127
@@ -107,19 +107,19 @@ module _ (accepts : Accepts) (s : Search) where
 
   -- tails
 
-  pub start_is_tail : IsRightAsTarget s.moment s.purpose s.target → IsTail accepts s []
+  pub start_is_tail : IsRightAsTarget s.options s.moment s.purpose s.target → IsTail accepts s []
   start_is_tail right = record { right = record { there = tt; right = right }; short = omega arith }
 
-  right_first : (c first : Certificate) (rest : List Certificate) → IsRightAsAuthority s.moment c → Issues accepts c first
-      → FitsAbove c (first ∷ rest) → AreRight accepts s.moment s.purpose (first ∷ rest) → AreRight accepts s.moment s.purpose (c ∷ first ∷ rest)
+  right_first : (c first : Certificate) (rest : List Certificate) → IsRightAsAuthority s.options s.moment c → Issues accepts c first
+      → FitsAbove c (first ∷ rest) → AreRight s.options accepts s.moment s.purpose (first ∷ rest) → AreRight s.options accepts s.moment s.purpose (c ∷ first ∷ rest)
   right_first c first rest authority issues fits all =
       (record { authority = authority; issues = issues; different = fits.different; length = fits.length; names = fits.names }, all)
 
-  right_more : (c : Certificate) (above : List ℕ) → IsRightAsAuthority s.moment c → Issues accepts c (certificate_at s (top_of (length s.bag) above))
-      → FitsAbove c (path above) → AreRight accepts s.moment s.purpose (path above) → AreRight accepts s.moment s.purpose (c ∷ path above)
+  right_more : (c : Certificate) (above : List ℕ) → IsRightAsAuthority s.options s.moment c → Issues accepts c (certificate_at s (top_of (length s.bag) above))
+      → FitsAbove c (path above) → AreRight s.options accepts s.moment s.purpose (path above) → AreRight s.options accepts s.moment s.purpose (c ∷ path above)
   right_more c above authority issues =
       let top = path_top s above in
-      subst (λ l. FitsAbove c l → AreRight accepts s.moment s.purpose l → AreRight accepts s.moment s.purpose (c ∷ l)) (sym top.1)
+      subst (λ l. FitsAbove c l → AreRight s.options accepts s.moment s.purpose l → AreRight s.options accepts s.moment s.purpose (c ∷ l)) (sym top.1)
       (right_first c (certificate_at s (top_of (length s.bag) above)) top.0 authority issues)
 
   -- a tail with an issuer of its top that may stand there is right
@@ -129,7 +129,7 @@ module _ (accepts : Accepts) (s : Search) where
     right = record {
       there = recursion_from_All (λ p. p < length s.bag) (above ++ place ∷ [])
           (All-push (λ p. p < length s.bag) above place (All-from_recursion (λ p. p < length s.bag) above tail.right.there) issuer.there);
-      right = subst (AreRight accepts s.moment s.purpose) (sym (tail_grows s.target s.bag above place))
+      right = subst (AreRight s.options accepts s.moment s.purpose) (sym (tail_grows s.target s.bag above place))
           (right_more (certificate_at s place) above issuer.authority issuer.issues stands.fits tail.right.right);
     };
     short = omega (arith, length_push above place);
@@ -311,7 +311,7 @@ module _ (accepts : Accepts) (s : Search) (links : Links) (are : AreLinks accept
 
   -- the next place was tried
 
-  pub started_walk : IsRightAsTarget s.moment s.purpose s.target → IsQueueOf accepts s links None ([] ∷ []) 0 0
+  pub started_walk : IsRightAsTarget s.options s.moment s.purpose s.target → IsQueueOf accepts s links None ([] ∷ []) 0 0
   started_walk right =
       started (issuers_above s links) ascending (IsTail accepts s) (IsWanted accepts s None) (leads None) (start_is_tail accepts s right)
 

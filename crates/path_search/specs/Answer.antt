@@ -16,7 +16,7 @@ seen_candidate c = record { anchor = c.anchor; above = c.above.items }
 -- the places are those of certificates that are right above the target, whatever stands above them
 pub record IsRightTail (accepts : Accepts) (s : Search) (above : List ℕ) : Type 0 where
   pub there : AllByRecursion (λ place. place < length s.bag) above
-  pub right : AreRight accepts s.moment s.purpose (path_down_to s.target s.bag above)
+  pub right : AreRight s.options accepts s.moment s.purpose (path_down_to s.target s.bag above)
 
 abbrev pub AreDifferent : List (List ℕ) → Type 0
 AreDifferent [] = Unit {0}

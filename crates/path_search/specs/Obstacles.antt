@@ -14,7 +14,7 @@ use Rattle.path_search.specs.declared.diagnosis.Stuck.{Stuck}
 -- the conditions on the certificate at a place above a tail, whose top those at some places issued
 abbrev pub MeetsBySigners : Search → List ℕ → List ℕ → ℕ → Reason → Type 0
 MeetsBySigners s above signers place =
-    MeetsAbove (Contains signers place) s.moment (certificate_at s place) (path_down_to s.target s.bag above)
+    MeetsAbove s.options (Contains signers place) s.moment (certificate_at s place) (path_down_to s.target s.bag above)
 
 -- the place with the condition that its certificate does not meet, if there is one
 abbrev pub obstacle_of : ℕ → Option Reason → List Obstacle

@@ -145,7 +145,7 @@ IsBounded steps old new = length (seen_tails new) ≤ max steps (length (seen_ta
 
 -- the target is right by itself
 abbrev pub HasRightTarget : Search → Type 0
-HasRightTarget s = IsRightAsTarget s.moment s.purpose s.target
+HasRightTarget s = IsRightAsTarget s.options s.moment s.purpose s.target
 
 -- the tail that has the target alone, if it is right; otherwise none
 abbrev pub AreFirst : Search → List (List ℕ) → Type 0

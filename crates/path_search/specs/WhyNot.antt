@@ -4,6 +4,7 @@ use Rattle.std.specs.List.{All}
 use Rattle.std.specs.List.Sorted.{IsStrictlyIncreasing}
 use Rattle.cert.specs.Certificate.{Certificate}
 use Rattle.path_conditions.specs.CertificateConditions.{HasBegun, HasNotExpired, IsCa, MaySignCertificates, NeedsNoPolicyTree, CriticalExtensionsAreKnown, AllowsPurpose}
+use Rattle.path.specs.declared.options.Options.{Options}
 use Rattle.path.specs.declared.reason.Reason.{Reason}
 use Rattle.path.specs.declared.reason.Reason.TheVariants.{Repeated, Signature, NotYet, Expired, Issuer, NotPermitted, Excluded, ConstraintForm, NotCa, PathLength, KeyCertSign, Policy, CriticalUnknown, Purpose, Empty, TooLong, NoValidPolicy, AnyPolicyMapped, NoUserPolicy}
 use Rattle.path.specs.Conditions.{ConstrainNoOtherForm, ExcludeNoName, IsNamedByIssuer, IsSignedByIssuer, PermitNames}
@@ -35,51 +36,51 @@ abbrev pub FindsUnmet : (Reason → Type 0) → Option Reason → Type 0
 FindsUnmet Meets found = MatchOption found (MeetsEach Meets) (IsFirstUnmet Meets)
 
 -- the condition whose breach is the reason, on a certificate alone that stands at the end of a path
-abbrev pub MeetsAsTarget : ℤ → Option (List ℕ) → Certificate → Reason → Type 0
-MeetsAsTarget moment purpose c NotYet = HasBegun c moment
-MeetsAsTarget moment purpose c Expired = HasNotExpired c moment
-MeetsAsTarget moment purpose c Policy = NeedsNoPolicyTree c
-MeetsAsTarget moment purpose c CriticalUnknown = CriticalExtensionsAreKnown c
-MeetsAsTarget moment purpose c Purpose = AllowsPurpose c purpose
-MeetsAsTarget moment purpose c Repeated = Unit {0}
-MeetsAsTarget moment purpose c Signature = Unit {0}
-MeetsAsTarget moment purpose c Issuer = Unit {0}
-MeetsAsTarget moment purpose c NotPermitted = Unit {0}
-MeetsAsTarget moment purpose c Excluded = Unit {0}
-MeetsAsTarget moment purpose c ConstraintForm = Unit {0}
-MeetsAsTarget moment purpose c NotCa = Unit {0}
-MeetsAsTarget moment purpose c PathLength = Unit {0}
-MeetsAsTarget moment purpose c KeyCertSign = Unit {0}
-MeetsAsTarget moment purpose c Empty = Unit {0}
-MeetsAsTarget moment purpose c TooLong = Unit {0}
-MeetsAsTarget moment purpose c NoValidPolicy = Unit {0}
-MeetsAsTarget moment purpose c AnyPolicyMapped = Unit {0}
-MeetsAsTarget moment purpose c NoUserPolicy = Unit {0}
+abbrev pub MeetsAsTarget : Options → ℤ → Option (List ℕ) → Certificate → Reason → Type 0
+MeetsAsTarget options moment purpose c NotYet = HasBegun c moment
+MeetsAsTarget options moment purpose c Expired = HasNotExpired c moment
+MeetsAsTarget options moment purpose c Policy = NeedsNoPolicyTree c
+MeetsAsTarget options moment purpose c CriticalUnknown = CriticalExtensionsAreKnown options.profile c
+MeetsAsTarget options moment purpose c Purpose = AllowsPurpose options.profile c purpose
+MeetsAsTarget options moment purpose c Repeated = Unit {0}
+MeetsAsTarget options moment purpose c Signature = Unit {0}
+MeetsAsTarget options moment purpose c Issuer = Unit {0}
+MeetsAsTarget options moment purpose c NotPermitted = Unit {0}
+MeetsAsTarget options moment purpose c Excluded = Unit {0}
+MeetsAsTarget options moment purpose c ConstraintForm = Unit {0}
+MeetsAsTarget options moment purpose c NotCa = Unit {0}
+MeetsAsTarget options moment purpose c PathLength = Unit {0}
+MeetsAsTarget options moment purpose c KeyCertSign = Unit {0}
+MeetsAsTarget options moment purpose c Empty = Unit {0}
+MeetsAsTarget options moment purpose c TooLong = Unit {0}
+MeetsAsTarget options moment purpose c NoValidPolicy = Unit {0}
+MeetsAsTarget options moment purpose c AnyPolicyMapped = Unit {0}
+MeetsAsTarget options moment purpose c NoUserPolicy = Unit {0}
 
 -- The condition whose breach is the reason, on a certificate above others that are in order down to a target, of which the first one
 -- names it as its issuer; `Signed` says that its key accepts the signature of that one. A validation that fails for Repeated, Signature,
 -- PathLength or one of the three of name constraints says so of the certificate below (RFC 5280, 6.1.3); here it is said of the one above.
-abbrev pub MeetsAbove : Type 0 → ℤ → Certificate → List Certificate → Reason → Type 0
-MeetsAbove Signed moment c below Repeated = Lacks c.octets below
-MeetsAbove Signed moment c below Signature = Signed
-MeetsAbove Signed moment c below NotYet = HasBegun c moment
-MeetsAbove Signed moment c below Expired = HasNotExpired c moment
-MeetsAbove Signed moment c below Issuer = Unit {0}
-MeetsAbove Signed moment c below NotPermitted = HoldsOfNamed (PermitNames c) below
-MeetsAbove Signed moment c below Excluded = HoldsOfNamed (ExcludeNoName c) below
-MeetsAbove Signed moment c below ConstraintForm = HoldsOfNamed (ConstrainNoOtherForm c) below
-MeetsAbove Signed moment c below NotCa = IsCa c
-MeetsAbove Signed moment c below PathLength = AllowsLength c below
-MeetsAbove Signed moment c below KeyCertSign = MaySignCertificates c
-MeetsAbove Signed moment c below Policy = NeedsNoPolicyTree c
-MeetsAbove Signed moment c below CriticalUnknown = CriticalExtensionsAreKnown c
-MeetsAbove Signed moment c below Purpose = Unit {0}
-MeetsAbove Signed moment c below Empty = Unit {0}
+abbrev pub MeetsAbove : Options → Type 0 → ℤ → Certificate → List Certificate → Reason → Type 0
+MeetsAbove options Signed moment c below Repeated = Lacks c.octets below
+MeetsAbove options Signed moment c below Signature = Signed
+MeetsAbove options Signed moment c below NotYet = HasBegun c moment
+MeetsAbove options Signed moment c below Expired = HasNotExpired c moment
+MeetsAbove options Signed moment c below Issuer = Unit {0}
+MeetsAbove options Signed moment c below NotPermitted = HoldsOfNamed (PermitNames c) below
+MeetsAbove options Signed moment c below Excluded = HoldsOfNamed (ExcludeNoName c) below
+MeetsAbove options Signed moment c below ConstraintForm = HoldsOfNamed (ConstrainNoOtherForm c) below
+MeetsAbove options Signed moment c below NotCa = IsCa c
+MeetsAbove options Signed moment c below PathLength = AllowsLength c below
+MeetsAbove options Signed moment c below KeyCertSign = MaySignCertificates c
+MeetsAbove options Signed moment c below Policy = NeedsNoPolicyTree c
+MeetsAbove options Signed moment c below CriticalUnknown = CriticalExtensionsAreKnown options.profile c
+MeetsAbove options Signed moment c below Purpose = Unit {0}
+MeetsAbove options Signed moment c below Empty = Unit {0}
 -- a path has at most 128 certificates (a choice of the profile)
-MeetsAbove Signed moment c below TooLong = length below < 128
-MeetsAbove Signed moment c below NoValidPolicy = Unit {0}
-MeetsAbove Signed moment c below AnyPolicyMapped = Unit {0}
-MeetsAbove Signed moment c below NoUserPolicy = Unit {0}
+MeetsAbove options Signed moment c below TooLong = length below < 128
+MeetsAbove options Signed moment c below NoValidPolicy = Unit {0}
+MeetsAbove options Signed moment c below AnyPolicyMapped = Unit {0}
+MeetsAbove options Signed moment c below NoUserPolicy = Unit {0}
 
 -- the certificate at the top of a tail
 abbrev pub top_certificate : Search → List ℕ → Certificate
@@ -98,7 +99,7 @@ pub record IsAnchorInTheWay (accepts : Accepts) (s : Search) (c : Certificate) (
 -- the condition whose breach is the reason, on the certificate at a place of the bag, above a tail
 abbrev pub MeetsAboveTail : Accepts → Search → List ℕ → ℕ → Reason → Type 0
 MeetsAboveTail accepts s above place =
-    MeetsAbove (IsSignedByIssuer accepts (top_certificate s above) (certificate_at s place).key_info.value.octets) s.moment
+    MeetsAbove s.options (IsSignedByIssuer accepts (top_certificate s above) (certificate_at s place).key_info.value.octets) s.moment
     (certificate_at s place) (path_down_to s.target s.bag above)
 
 -- these places and no others, in order
@@ -128,14 +129,14 @@ IsSpent accepts s budget = (budget.signatures < count_pairs s) ⊎ HasRightTails
 -- why no path is found; or one of the two budgets is used up, and the target is right
 abbrev pub IsWhyNot : Accepts → Search → Budget → Option WhyNot → Type 0
 IsWhyNot accepts s budget None = HasRightTarget s × IsSpent accepts s budget
-IsWhyNot accepts s budget (Some (why.Target reason)) = IsFirstUnmet (MeetsAsTarget s.moment s.purpose s.target) reason
+IsWhyNot accepts s budget (Some (why.Target reason)) = IsFirstUnmet (MeetsAsTarget s.options s.moment s.purpose s.target) reason
 IsWhyNot accepts s budget (Some (why.Stuck stuck)) = IsStuck accepts s stuck
 
 -- laws
 
 -- a target is right exactly if it meets all conditions
 abbrev pub TargetFactors : Type 0
-TargetFactors = (s : Search) → HasRightTarget s ↔ MeetsEach (MeetsAsTarget s.moment s.purpose s.target)
+TargetFactors = (s : Search) → HasRightTarget s ↔ MeetsEach (MeetsAsTarget s.options s.moment s.purpose s.target)
 
 -- of who has the name of the issuer of a tail's top, those that meet all conditions make a longer tail, and no others
 abbrev pub TailFactors : Type 0

@@ -10,6 +10,7 @@ ghost use Rattle.path_issuers.specs.Factors.{AdmitNames, AdmitNamesBelow, Allows
 
 use crate::tail::Tail;
 use cert::Certificate;
+use path::Options;
 use path_conditions::{Constraints, FormSet, path_length};
 use path_issuers::{is_right_as_authority, issues};
 use path_verifiers::Verifier;
@@ -171,11 +172,13 @@ impl<'p, 'c> Authority<'p, 'c> {
         verifier: &V,
         moment: i64,
         tail: &Tail<'_, '_>,
+        options: Options,
     ) -> bool
         ensures { IsTrue result
-            ↔ IsRightAbove (V.accepts verifier.now) moment self.now (seen_tail tail.now) }
+            ↔ IsRightAbove options (V.accepts verifier.now) moment self.now
+            (seen_tail tail.now) }
     {
-        is_right_as_authority(self.certificate, moment)
+        is_right_as_authority(self.certificate, moment, options)
             && self.fits_above(tail)
             && issues(verifier, self.certificate, tail.top())
     }

@@ -21,7 +21,7 @@ pub use diagnosis::{Stuck, WhyNot, why_not};
 pub use laws::{factor_laws, search_laws, why_not_laws};
 pub use obstacles::Obstacle;
 pub use path_issuers::{
-    Issuer, Search, SearchQuestion, is_right_as_authority, is_right_as_target, issues,
+    Issuer, Options, Search, SearchQuestion, is_right_as_authority, is_right_as_target, issues,
     question_laws, questions,
 };
 pub use paths::{Paths, find};

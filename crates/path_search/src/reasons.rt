@@ -39,23 +39,26 @@ const REASONS: [Reason; 19] = [
 
 /// Whether the target meets, by itself, the condition whose breach is the reason.
 fn target_meets(search: &Search<'_, '_>, reason: Reason) -> bool
-    ensures { IsTrue result ↔ MeetsAsTarget (seen_search search.now).moment
-        (seen_search search.now).purpose (seen_search search.now).target reason }
+    ensures { IsTrue result ↔ MeetsAsTarget (seen_search search.now).options
+        (seen_search search.now).moment (seen_search search.now).purpose
+        (seen_search search.now).target reason }
 {
+    let profile = search.options.profile;
     match reason {
         Reason::NotYet => has_begun(search.target, search.moment),
         Reason::Expired => has_not_expired(search.target, search.moment),
         Reason::Policy => needs_no_policy_tree(search.target),
-        Reason::CriticalUnknown => are_critical_extensions_known(search.target),
-        Reason::Purpose => allows_purpose(search.target, search.purpose),
+        Reason::CriticalUnknown => are_critical_extensions_known(profile, search.target),
+        Reason::Purpose => allows_purpose(profile, search.target, search.purpose),
         _ => true,
     }
 }
 
 /// The first condition that the target does not meet by itself.
 pub(crate) fn unmet_by_target(search: &Search<'_, '_>) -> Option<Reason>
-    ensures { FindsUnmet (MeetsAsTarget (seen_search search.now).moment
-        (seen_search search.now).purpose (seen_search search.now).target) result }
+    ensures { FindsUnmet (MeetsAsTarget (seen_search search.now).options
+        (seen_search search.now).moment (seen_search search.now).purpose
+        (seen_search search.now).target) result }
 {
     for reason in REASONS {
         if !target_meets(search, reason) {
@@ -74,9 +77,10 @@ impl<'p, 'c> Authority<'p, 'c> {
         signed: bool,
         reason: Reason,
     ) -> bool
-        ensures { IsTrue result ↔ MeetsAbove (IsTrue signed) (seen_search search.now).moment
-            self.now (seen_tail tail.now) reason }
+        ensures { IsTrue result ↔ MeetsAbove (seen_search search.now).options (IsTrue signed)
+            (seen_search search.now).moment self.now (seen_tail tail.now) reason }
     {
+        let profile = search.options.profile;
         match reason {
             Reason::Repeated => tail.lacks(self.certificate.octets),
             Reason::Signature => signed,
@@ -89,7 +93,7 @@ impl<'p, 'c> Authority<'p, 'c> {
             Reason::PathLength => self.allows_length(tail),
             Reason::KeyCertSign => may_sign_certificates(self.certificate),
             Reason::Policy => needs_no_policy_tree(self.certificate),
-            Reason::CriticalUnknown => are_critical_extensions_known(self.certificate),
+            Reason::CriticalUnknown => are_critical_extensions_known(profile, self.certificate),
             Reason::TooLong => tail.above.len() < 127,
             Reason::Issuer | Reason::Purpose | Reason::Empty => true,
             Reason::NoValidPolicy | Reason::AnyPolicyMapped | Reason::NoUserPolicy => true,
@@ -103,8 +107,8 @@ impl<'p, 'c> Authority<'p, 'c> {
         tail: &Tail<'_, '_>,
         signed: bool,
     ) -> Option<Reason>
-        ensures { FindsUnmet (MeetsAbove (IsTrue signed) (seen_search search.now).moment self.now
-            (seen_tail tail.now)) result }
+        ensures { FindsUnmet (MeetsAbove (seen_search search.now).options (IsTrue signed)
+            (seen_search search.now).moment self.now (seen_tail tail.now)) result }
     {
         for reason in REASONS {
             if !self.meets_above(search, tail, signed, reason) {

@@ -18,7 +18,7 @@ use std::alloc::{AllocError, Global};
 pub(crate) fn has_right_target(search: &Search<'_, '_>) -> bool
     ensures { IsTrue result ↔ HasRightTarget (seen_search search.now) }
 {
-    is_right_as_target(search.target, search.moment, search.purpose)
+    is_right_as_target(search.target, search.moment, search.purpose, search.options)
 }
 
 /// The tail that has the target alone, if it is right.

@@ -29,6 +29,7 @@ pub record IsOf (query : Query) (q : QueryWithPolicies) : Type 0 where
   pub anchor : q.path.anchor ≡ query.anchor
   pub moment : q.path.moment ≡ query.moment
   pub purpose : q.path.purpose ≡ query.purpose
+  pub options : q.path.options ≡ query.options
   pub certificates : AreTakenApart query.certificates q
 
 abbrev pub IsOfQuery : code.Query → QueryWithPolicies → Type 0

@@ -2,6 +2,7 @@ pub mod WithPolicies
 pub mod Inputs
 pub mod Asking
 pub mod Joining
+pub use Rattle.path.specs.Options
 pub use Rattle.path.specs.Query
 pub use Rattle.path.specs.Reading
 pub use Rattle.path.specs.Validity

@@ -3,6 +3,7 @@
 ghost use Rattle.std.specs.Prelude.{◌≡◌, ◌∷◌, Ok, IfOk, IfErr, map};
 ghost use Rattle.std.specs.Option.{option_copied};
 ghost use Rattle.cert.specs.Certificate.{certificate, seen_certificate};
+ghost use Rattle.path.specs.Options.{stated_options};
 ghost use Rattle.path.specs.Reading.{seen_query, texts_of};
 ghost use Rattle.path_policies.specs.Seen.{seen_query as seen_policies};
 ghost use Rattle.path_with_policies.specs.WithPolicies.{HasPoliciesOfEach};
@@ -54,8 +55,8 @@ impl<'p, 'c> Model for QueryWithPolicies<'p, 'c> {
 }
 
 impl<'p, 'c> QueryWithPolicies<'p, 'c> {
-    /// Takes the policies of the certificates of a query apart. If the extensions about policies of one are malformed, the first such
-    /// certificate is reported, from 1 on. Time is that of reading the extensions once more.
+    /// Takes the policies of the certificates of a query apart; its options stay. If the extensions about policies of one are malformed, the
+    /// first such certificate is reported, from 1 on. Time is that of reading the extensions once more.
     pub fn of(
         alloc: Global,
         query: Query<'c>,
@@ -80,8 +81,8 @@ impl<'p, 'c> QueryWithPolicies<'p, 'c> {
         }
     }
 
-    /// Reads the certificates from DER, from below the anchor down, with their policies, and asks about them. The first text that is no
-    /// certificate is reported, the anchor being 0; else the first whose extensions about policies are malformed.
+    /// Reads the certificates from DER, from below the anchor down, with their policies, and asks about them in the stated profile. The first
+    /// text that is no certificate is reported, the anchor being 0; else the first whose extensions about policies are malformed.
     pub fn read(
         alloc: Global,
         anchor: &'c [u8],
@@ -94,6 +95,7 @@ impl<'p, 'c> QueryWithPolicies<'p, 'c> {
         ensures path { IfOk result (IsPathOf (texts_of path.now)) }
         ensures moment { IfOk result (λ q. q.path.moment ≡ moment) }
         ensures purpose { IfOk result (λ q. q.path.purpose ≡ option_copied purpose.entry) }
+        ensures options { IfOk result (λ q. q.path.options ≡ stated_options) }
         ensures inputs { IfOk result (λ q. HasInputs inputs.entry q.policies) }
         ensures refused { IfErr result (λ refusal. IsTextRefused anchor.now (texts_of path.now)
             refusal.certificate refusal.fault) }

@@ -21,7 +21,7 @@ pub use fault::{DeliverFault, RunFault};
 pub use finding::find_over;
 pub use node::Node;
 pub use relying_search::{Finding, FindingBudget, finding_laws};
-pub use relying_verdicts::{Comparison, Fault, Query, QueryFault, Verdict};
+pub use relying_verdicts::{Comparison, Fault, Options, Query, QueryFault, Verdict};
 pub use running::run_laws;
 pub use store::ReopenFault;
 pub use verdicts::verdict_of;

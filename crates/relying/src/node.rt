@@ -113,9 +113,9 @@ impl<V: Verifier + Drop, D: Disk + Drop> Node<V, D> {
         counts
     }
 
-    /// The verdict on a path by what is held, which does not change. The path is validated first; the store is asked only if it meets the
-    /// conditions of RFC 5280, 6.1: two lists and a response for each certificate, in one transaction. `Fault::Store` means that the store
-    /// does not answer, `Fault::Memory` that there is no memory.
+    /// The verdict on a path by what is held, which does not change. The path is validated first, with the options of the question; the store
+    /// is asked only if it meets the conditions of RFC 5280, 6.1: two lists and a response for each certificate, in one transaction.
+    /// `Fault::Store` means that the store does not answer, `Fault::Memory` that there is no memory.
     pub fn verdict(&mut self, alloc: Global, query: &Query<'_>) -> Result<Verdict, Fault>
         ensures verifier { self.new.verifier ≡ self.old.verifier }
         ensures profile { self.new.store.profile ≡ self.old.store.profile }

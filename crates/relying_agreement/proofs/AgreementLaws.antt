@@ -1,15 +1,15 @@
 -- The same newest facts of consistent issuers are the same facts, so the verdicts are equal.
-use Rattle.std.proofs.Common.{◌≡◌, ℕ, List, [], ◌∷◌, ◌++◌, map, ap₂, Option, option_map, Contains, refl, sym, ap, subst, ◌∙◌, inl, inr}
+use Rattle.std.proofs.Common.{◌≡◌, ℕ, List, [], ◌∷◌, ◌++◌, map, ap₂, option_map, Contains, refl, sym, ap, subst, ◌∙◌, inl, inr}
 use Rattle.std.specs.List.{AllByRecursion}
 use Rattle.std.proofs.lemmas.List.Elements.{Contains-append_left, Contains-append_right, Contains-append_cases}
 use Rattle.cert.specs.Place.{body}
-use Rattle.statements_facts.specs.Statement.{Holdings, CrlSlot, OcspSlot, CrlFact, OcspFact, CrlAnswer, answer_for}
+use Rattle.statements_facts.specs.Statement.{Holdings, CrlSlot, OcspSlot, CrlFact, OcspFact, answer_for}
 use Rattle.path.specs.Query.{Query, Accepts}
 use Rattle.path.specs.Validity.{OutcomeIsOne}
 use Rattle.relying_agreement.specs.declared.verdict.Verdict.{Verdict}
-use Rattle.relying_agreement.specs.Link.{Link, links_of, crl_slots_of, ocsp_slot_for}
+use Rattle.relying_agreement.specs.Link.{Link, links_of, complete_slots_of, limited_slots_of, crl_slots_of, ocsp_slot_for}
 use Rattle.statements_facts.specs.Newest.{is_unexceeded, newer_crl, newer_ocsp}
-use Rattle.relying_agreement.specs.Status.{Answers, list_held}
+use Rattle.relying_agreement.specs.Status.{list_held}
 use Rattle.relying_agreement.specs.Verdict.{verdict_of, IsVerdict}
 use Rattle.relying_agreement.specs.Run.{Party, PartyHoldsNewest, crls_seen, responses_seen}
 use Rattle.relying_agreement.specs.Agreement.{HoldSameNewest, HoldSameNewestOf, HoldSameNumber, CrlsSeenAreConsistent, ResponsesSeenAreConsistent, IssuerIsConsistent, AllAreConsistent, AllIsEnough, CrlsHeldAreConsistent, ResponsesHeldAreConsistent, HeldIsConsistent, HeldAreConsistent, PartiesAgree, RunsAgree, RunsAgreeWhereAllAreConsistent, HeldWasSeen, SameNewestIsTheSame, OneOfANumberIsConsistent, PointwiseIsEnough}
@@ -75,12 +75,27 @@ same_lists one other serial [] consistent newest = refl
 same_lists one other serial (slot ∷ slots) consistent newest =
     ap₂ (λ crl crls. option_map (answer_for serial) crl ∷ crls) (same_crl one other slot consistent.0 newest.0) (same_lists one other serial slots consistent.1 newest.1)
 
+-- what holds of two lists holds of each
+in_front : {A : Type 0} (P : A → Type 0) (xs ys : List A) → AllByRecursion P (xs ++ ys) → AllByRecursion P xs
+in_front P [] ys all = tt
+in_front P (x ∷ xs) ys all = (all.0, in_front P xs ys all.1)
+
+behind : {A : Type 0} (P : A → Type 0) (xs ys : List A) → AllByRecursion P (xs ++ ys) → AllByRecursion P ys
+behind P [] ys all = all
+behind P (x ∷ xs) ys all = behind P xs ys all.1
+
 -- the same newest of a certificate is the same answer
 pub same_of_newest : SameNewestIsTheSame
 same_of_newest one other link consistent newest =
-    let lists = same_lists one other (body link.certificate.serial) (crl_slots_of link) consistent.lists newest.lists in
+    let complete = complete_slots_of link in
+    let limited_slots = limited_slots_of link in
+    let serial = body link.certificate.serial in
+    let lists = same_lists one other serial complete (in_front (CrlsHeldAreConsistent one other) complete limited_slots consistent.lists)
+    (in_front (HoldSameNumber one other) complete limited_slots newest.lists) in
+    let limited = same_lists one other serial limited_slots (behind (CrlsHeldAreConsistent one other) complete limited_slots consistent.lists)
+    (behind (HoldSameNumber one other) complete limited_slots newest.lists) in
     let ocsp = same_by_mark (λ (fact : OcspFact). fact.times) (one.ocsp (ocsp_slot_for link)) (other.ocsp (ocsp_slot_for link)) consistent.ocsp newest.ocsp in
-    λ i. record { lists = lists i; ocsp = ocsp i }
+    λ i. record { lists = lists i; limited = limited i; ocsp = ocsp i }
 
 all_same : (one other : Holdings) (links : List Link) → AllByRecursion (HeldIsConsistent one other) links → AllByRecursion (HoldSameNewestOf one other) links
     → AllByRecursion (HoldSameOf one other) links

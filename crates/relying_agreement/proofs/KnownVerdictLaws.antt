@@ -1,5 +1,5 @@
 -- The known verdicts, by computing.
-use Rattle.std.proofs.Common.{◌==◌, Bool, true, false, List, [], ◌∷◌, Option, Some, None, refl, ap, true≢false}
+use Rattle.std.proofs.Common.{◌==◌, Bool, true, false, List, [], ◌∷◌, Option, Some, refl, ap, true≢false}
 use Rattle.sha1.specs.Sha1.{sha1}
 use Rattle.names.specs.NameKey.{name_key}
 use Rattle.cert.specs.Part.{contents}
@@ -7,7 +7,7 @@ use Rattle.relying_agreement.specs.declared.verdict.Verdict.{Verdict}
 use Rattle.relying_agreement.specs.declared.verdict.Verdict.TheVariants.{Valid}
 use Rattle.relying_agreement.specs.Status.{Answers}
 use Rattle.statements_facts.specs.Statement.{CrlAnswer}
-use Rattle.relying_agreement.specs.KnownVerdicts.{KnownVerdicts, NamesFirstDifference}
+use Rattle.relying_agreement.specs.KnownVerdicts.{KnownVerdicts, NamesDifferenceAtLimitedPoint, NamesFirstDifference}
 use Rattle.relying_agreement.proofs.ExampleLaws.{itself}
 
 pub known_verdicts : KnownVerdicts
@@ -46,6 +46,20 @@ known_verdicts = record {
   without_crl_sign = refl;
   other_key = refl;
   revoked_before_unknown = refl;
+  complete_point_covers = refl;
+  complete_point_revokes = refl;
+  limited_point_revokes = refl;
+  limited_point_covers_nothing = refl;
+  limited_point_beside_whole = refl;
+  whole_does_not_hide = refl;
+  good_does_not_hide = refl;
+  limited_point_expired = refl;
+  limited_point_of_cas = refl;
+  no_point_of_it = refl;
+  reason_of_whole = refl;
+  reason_at_limited_point = refl;
+  name_of_both = refl;
+  name_of_both_revokes = refl;
 }
 
 abbrev is_valid : Verdict → Bool
@@ -63,4 +77,13 @@ names_first_difference = (
   refl,
   λ same. true≢false (ap is_valid same),
   record { before = []; link = _; after = _; is = refl; number = refl; same_before = tt; differs = λ same. true≢false (ap (λ (a : Answers). begins_with_five a.lists) same) },
+)
+
+pub names_difference_at_limited_point : NamesDifferenceAtLimitedPoint
+unfolding name_key contents
+names_difference_at_limited_point = (
+  refl,
+  refl,
+  λ same. true≢false (ap is_valid same),
+  record { before = []; link = _; after = _; is = refl; number = refl; same_before = tt; differs = λ same. true≢false (ap (λ (a : Answers). begins_with_five a.limited) same) },
 )

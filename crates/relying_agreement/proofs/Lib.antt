@@ -3,6 +3,7 @@ mod Places
 pub mod Laws
 mod StatusLaws
 mod ValidLaws
+mod HiddenLaws
 mod WordLaws
 mod VerdictLaws
 mod Tests

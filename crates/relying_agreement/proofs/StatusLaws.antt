@@ -1,16 +1,16 @@
 -- The tests of status say what the words do: which statements count, whether one covers, whether one revokes.
-use Rattle.std.proofs.Common.{◌≡◌, ◌⊎◌, ◌&&◌, ◌||◌, ℕ, ℤ, ◌≤ℤ◌, int_le, Bool, true, false, T, List, [], ◌∷◌, map, Option, Some, None, option_map, is_some, IsSome, Any, Decides, refl, sym, ap, subst, ◌∙◌, inl, inr, true≢false}
+use Rattle.std.proofs.Common.{◌≡◌, ◌&&◌, ◌||◌, ◌++◌, ℕ, ℤ, ◌≤ℤ◌, int_le, Bool, true, false, T, List, [], ◌∷◌, map, Option, Some, None, option_map, is_some, IsSome, Any, Decides, refl, sym, ap, subst, ◌∙◌, inl, inr, true≢false}
 use Rattle.std.specs.Bool.{passes}
 use Rattle.std.specs.List.{AllByRecursion, list_any}
-use Rattle.std.specs.Option.{option_or}
 use Rattle.std.proofs.lemmas.Bool.{and_parts, and_from}
+use Rattle.std.proofs.lemmas.List.{map-append}
 use Rattle.std.proofs.lemmas.Option.{none-some, same_Some}
-use Rattle.std.proofs.lemmas.Bool.Decides.{Decides-and, Decides-or, Decides-like}
+use Rattle.std.proofs.lemmas.Bool.Decides.{Decides-and, Decides-or}
 use Rattle.cert.specs.Place.{body}
 use Rattle.statements_facts.specs.declared.single.Status.{Status}
 use Rattle.statements_facts.specs.declared.single.Status.TheVariants as said
 use Rattle.statements_facts.specs.Statement.{Window, CrlSlot, CrlFact, OcspFact, Holdings, CrlAnswer, answer_for}
-use Rattle.relying_agreement.specs.Link.{Link, crl_slots_of, ocsp_slot_for}
+use Rattle.relying_agreement.specs.Link.{Link, complete_slots_of, limited_slots_of, crl_slots_of, ocsp_slot_for}
 use Rattle.relying_agreement.specs.Status.{IsCurrent, is_current, may_sign_crls, list_held, evidence_of, kept_if, crl_that_counts, ocsp_that_counts, reason_of_status, is_good, crl_reason, listed_reason, ocsp_reason, deciding_reason, is_covered_by, CrlCounts, SomeCrlCounts, SomeCrlLists, OcspCounts, CrlRevokes, FirstCrlRevokes, OcspRevokes, IsNotListed, IsRevoked, SomeRevokes, IsCovered}
 use Rattle.relying_agreement.proofs.Options.{kept_is, is_kept, kept_some, mapped_is, chained_is, is_chained, chained_to, to_chained, first_or, or_first, or_second, or_none, none_of, some_or, either_decides, some_value, any_decides, any_mapped}
 
@@ -131,11 +131,23 @@ module _ (held : Holdings) (moment : ℤ) (link : Link) where
 
   -- the test of cover is the words'
   pub cover_decides : Decides (is_covered_by moment (evidence_of held link)) (IsCovered held moment link)
-  cover_decides = Decides-or _ _ (lists_cover (crl_slots_of link)) response_covers
+  cover_decides = Decides-or _ _ (lists_cover (complete_slots_of link)) response_covers
+
+  -- all lists, in the order in which they decide
+  abbrev all_told : List (Option CrlAnswer)
+  all_told = map told (complete_slots_of link) ++ map told (limited_slots_of link)
+
+  in_order : map told (crl_slots_of link) ≡ all_told
+  in_order = map-append told (complete_slots_of link) (limited_slots_of link)
+
+  all_list : Decides (is_some (listed_reason moment may_sign all_told)) (Any (SomeCrlLists held moment link) (crl_slots_of link))
+  all_list =
+      subst (λ crls. Decides (is_some (listed_reason moment may_sign crls)) (Any (SomeCrlLists held moment link) (crl_slots_of link))) in_order
+      (lists_list (crl_slots_of link))
 
   -- and so is the test of revocation
   pub revoke_decides : Decides (is_some (deciding_reason moment (evidence_of held link))) (SomeRevokes held moment link)
-  revoke_decides = either_decides _ _ (lists_list (crl_slots_of link)) response_revokes
+  revoke_decides = either_decides _ _ all_list response_revokes
 
   -- ---- why
 
@@ -193,15 +205,18 @@ module _ (held : Holdings) (moment : ℤ) (link : Link) where
   ocsp_gives reason r =
       to_chained (λ (response : OcspFact). reason_of_status response.status) the_response r.fact reason (response_counts r.fact r.counts) (ap reason_of_status r.status)
 
+  same_reason : listed_reason moment may_sign (map told (crl_slots_of link)) ≡ listed_reason moment may_sign all_told
+  same_reason = ap (listed_reason moment may_sign) in_order
+
   -- the reason that is found is the one of the words
   pub revoked_so : (reason : ℕ) → deciding_reason moment (evidence_of held link) ≡ Some reason → IsRevoked held moment link reason
   revoked_so reason e = elim (first_or _ _ reason e) [
-    | inl listed ↦ inl (first_revokes (crl_slots_of link) reason listed)
-    | inr (none, response) ↦ inr (none_revokes (crl_slots_of link) none, ocsp_revokes reason response)
+    | inl listed ↦ inl (first_revokes (crl_slots_of link) reason (same_reason ∙ listed))
+    | inr (none, response) ↦ inr (none_revokes (crl_slots_of link) (same_reason ∙ none), ocsp_revokes reason response)
   ]
 
   pub reason_so : (reason : ℕ) → IsRevoked held moment link reason → deciding_reason moment (evidence_of held link) ≡ Some reason
   reason_so reason revoked = elim revoked [
-    | inl listed ↦ or_first _ _ reason (first_gives (crl_slots_of link) reason listed)
-    | inr (none, response) ↦ or_second _ _ (none_gives (crl_slots_of link) none) ∙ ocsp_gives reason response
+    | inl listed ↦ or_first _ _ reason (sym same_reason ∙ first_gives (crl_slots_of link) reason listed)
+    | inr (none, response) ↦ or_second _ _ (sym same_reason ∙ none_gives (crl_slots_of link) none) ∙ ocsp_gives reason response
   ]

@@ -1,5 +1,5 @@
 -- Tests of equality, for verdicts on a valid path and for what is held of a certificate.
-use Rattle.std.proofs.Common.{◌≡◌, ◌==◌, ◌&&◌, ℕ, zero, suc, Bool, true, false, List, [], ◌∷◌, Option, Some, None, Decides, int_eq, refl, sym, ap, ◌∙◌, true≢false}
+use Rattle.std.proofs.Common.{◌≡◌, ◌==◌, ◌&&◌, ℕ, zero, suc, Bool, false, List, Option, Some, None, Decides, int_eq, refl, sym, ap, ◌∙◌, true≢false}
 use Rattle.std.specs.Cmp.Lexicographic.{pointwise}
 use Rattle.std.specs.Option.{option_eq}
 use Rattle.std.proofs.lemmas.Slice.Eq.{slice_eq-Decides}
@@ -142,11 +142,12 @@ lists_decide : (a b : List (Option CrlAnswer)) → Decides (same_lists a b) (a �
 lists_decide a b = slice_eq-Decides (option_decides same_crl crl_decides) a b (same_lists a b) refl
 
 abbrev pub same_answers : Answers → Answers → Bool
-same_answers a b = same_lists a.lists b.lists && option_eq same_response a.ocsp b.ocsp
+same_answers a b = same_lists a.lists b.lists && (same_lists a.limited b.limited && option_eq same_response a.ocsp b.ocsp)
 
 pub answers_decide : (a b : Answers) → Decides (same_answers a b) (a ≡ b)
 answers_decide a b =
     Decides-like (same_answers a b)
-    (λ (lists, ocsp). λ i. record { lists = lists i; ocsp = ocsp i })
-    (λ e. (ap (λ (x : Answers). x.lists) e, ap (λ (x : Answers). x.ocsp) e))
-    (Decides-and _ _ (lists_decide a.lists b.lists) (option_decides same_response response_decides a.ocsp b.ocsp))
+    (λ (lists, (limited, ocsp)). λ i. record { lists = lists i; limited = limited i; ocsp = ocsp i })
+    (λ e. (ap (λ (x : Answers). x.lists) e, (ap (λ (x : Answers). x.limited) e, ap (λ (x : Answers). x.ocsp) e)))
+    (Decides-and _ _ (lists_decide a.lists b.lists)
+    (Decides-and _ _ (lists_decide a.limited b.limited) (option_decides same_response response_decides a.ocsp b.ocsp)))

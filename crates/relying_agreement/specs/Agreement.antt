@@ -20,7 +20,8 @@ HoldSameNumber one other slot = number_held one slot ≡ number_held other slot
 abbrev pub times_held : Holdings → OcspSlot → Option Times
 times_held held slot = option_map (λ fact. fact.times) (held.ocsp slot)
 
--- in each slot that speaks of the certificate both hold nothing, or lists of one number, or responses of the same times
+-- in each slot that speaks of the certificate, at each of its points too, both hold nothing, or lists of one number, or responses of the same
+-- times
 pub record HoldSameNewestOf (one other : Holdings) (link : Link) : Type 0 where
   pub lists : AllByRecursion (HoldSameNumber one other) (crl_slots_of link)
   pub ocsp : times_held one (ocsp_slot_for link) ≡ times_held other (ocsp_slot_for link)

@@ -7,11 +7,13 @@ use Rattle.cert.specs.Extensions.{Extensions, no_extensions}
 use Rattle.cert.specs.Place.{Place}
 use Rattle.cert.specs.AlgorithmIdentifier.{AlgorithmIdentifier}
 use Rattle.cert.specs.Certificate.{Certificate}
+use Rattle.cert.specs.CertificatePoints.{no_points}
 use Rattle.cert.specs.CertificateHosts.{no_hosts}
 use Rattle.statements_facts.specs.declared.scope.Scope.TheVariants as Scope
 use Rattle.statements_facts.specs.declared.single.Status.TheVariants as said
 use Rattle.statements_facts.specs.Fact.{Fact}
 use Rattle.statements_facts.specs.Statement.{Window, Times, CrlSlot, CrlFact, OcspSlot, OcspFact, empty_holdings}
+use Rattle.path.specs.Options.{stated_options}
 use Rattle.path.specs.Query.{Query, Accepts}
 use Rattle.statements.specs.Issuer.{identity_of}
 use Rattle.relying_agreement.specs.declared.verdict.Verdict.{Verdict}
@@ -43,7 +45,7 @@ plain key issuer serial extensions = record {
   key_info = record { value = record { octets = key ∷ []; at = 0 }; algorithm = no_algorithm; key = record { value = nowhere; octets = key ∷ [] } };
   extensions = extensions;
   signature = record { value = nowhere; octets = [] };
-  points = [];
+  points = no_points;
   hosts = no_hosts;
 }
 
@@ -55,7 +57,7 @@ abbrev pub target : Certificate
 target = plain 84 82 5 no_extensions
 
 abbrev pub query : Query
-query = record { anchor = anchor; certificates = target ∷ []; moment = pos 100; purpose = None }
+query = record { anchor = anchor; certificates = target ∷ []; moment = pos 100; purpose = None; options = stated_options }
 
 abbrev pub list_slot : CrlSlot
 list_slot = record { issuer = identity_of anchor; scope = Scope.All }

@@ -9,5 +9,6 @@ pub mod Examples
 pub mod KnownVerdicts
 pub use Rattle.statements_facts.specs.Statement
 pub use Rattle.statements_facts.specs.Fact
+pub use Rattle.path.specs.Options
 pub use Rattle.path.specs.Query
 pub use Rattle.path.specs.Validity

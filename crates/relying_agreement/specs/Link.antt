@@ -39,14 +39,29 @@ abbrev pub slots_under : Certificate → IssuerIdentity → List CrlSlot
 slots_under certificate issuer =
     record { issuer = issuer; scope = All } ∷ record { issuer = issuer; scope = own_scope certificate } ∷ []
 
--- The slots of the lists that speak of a certificate of the issuer, in the order in which they decide: of whole lists, and of those that are
--- published at its points (6.3.3 (b) (2) (i)).
-abbrev pub list_slots : IssuerIdentity → Certificate → List CrlSlot
-list_slots issuer certificate =
-    slots_under certificate issuer ++ flat_map (λ point. slots_under certificate (at_point point issuer)) certificate.points
+-- of the same lists that are published at points
+abbrev pub slots_at : List (List ℕ) → Certificate → IssuerIdentity → List CrlSlot
+slots_at points certificate issuer = flat_map (λ point. slots_under certificate (at_point point issuer)) points
 
+-- The slots of the lists that say of a certificate of the issuer whether it is revoked, for whatever reason: of whole lists, and of those
+-- that are published at its complete points, without reasons and without cRLIssuer (6.3.3 (b) (2) (i)).
+abbrev pub complete_slots : IssuerIdentity → Certificate → List CrlSlot
+complete_slots issuer certificate = slots_under certificate issuer ++ slots_at certificate.points.complete certificate issuer
+
+-- The slots of the lists at its limited points, which have reasons, a cRLIssuer or both. What is revoked there is revoked, but such a list
+-- does not say that nothing is revoked for a reason that the point does not have (4.2.1.13; 6.3.3 (d), (e) and (j)).
+abbrev pub limited_slots : IssuerIdentity → Certificate → List CrlSlot
+limited_slots issuer certificate = slots_at certificate.points.limited certificate issuer
+
+abbrev pub complete_slots_of : Link → List CrlSlot
+complete_slots_of link = complete_slots (identity_of link.issuer) link.certificate
+
+abbrev pub limited_slots_of : Link → List CrlSlot
+limited_slots_of link = limited_slots (identity_of link.issuer) link.certificate
+
+-- The slots of all lists that may revoke a certificate, in the order in which they decide why it is revoked.
 abbrev pub crl_slots_of : Link → List CrlSlot
-crl_slots_of link = list_slots (identity_of link.issuer) link.certificate
+crl_slots_of link = complete_slots_of link ++ limited_slots_of link
 
 -- The slot of a whole list that speaks of the certificate: its issuer's, with the scope.
 abbrev pub crl_slot_for : Link → Scope → CrlSlot

@@ -1,5 +1,5 @@
 -- Whether a certificate is revoked, and whether a statement speaks of it (RFC 5280, 6.3.3; RFC 6960, 2.2 and 3.2).
-use Rattle.std.specs.Prelude.{◌≡◌, ◌⊎◌, ◌==◌, ◌||◌, ◌&&◌, ℕ, ℤ, ◌≤ℤ◌, int_le, Bool, true, false, List, [], ◌∷◌, Option, Some, None, map, option_map, option_and_then, is_some, if◌then◌else◌, IsTrue, IsSome, Any}
+use Rattle.std.specs.Prelude.{◌≡◌, ◌⊎◌, ◌==◌, ◌||◌, ◌&&◌, ◌++◌, ℕ, ℤ, ◌≤ℤ◌, int_le, Bool, true, false, List, [], ◌∷◌, Option, Some, None, map, option_map, option_and_then, is_some, if◌then◌else◌, IsTrue, IsSome, Any}
 use Rattle.std.specs.List.{AllByRecursion, list_any}
 use Rattle.std.specs.Option.{option_or}
 use Rattle.cert.specs.Place.{body}
@@ -10,7 +10,7 @@ use Rattle.statements_facts.specs.declared.single.Status.TheVariants as said
 use Rattle.sha1.specs.Sha1.{sha1}
 use Rattle.statements_facts.specs.Statement.{IssuerIdentity, Window, CrlSlot, CrlFact, CrlAnswer, OcspFact, Holdings, answer_for}
 use Rattle.statements.specs.Issuer.{identity_of}
-use Rattle.relying_agreement.specs.Link.{Link, list_slots, crl_slots_of, ocsp_slot_for}
+use Rattle.relying_agreement.specs.Link.{Link, complete_slots, limited_slots, complete_slots_of, crl_slots_of, ocsp_slot_for}
 
 -- thisUpdate is not after the moment, nextUpdate not before it (RFC 5280, 6.3.3 (a); RFC 6960, 3.2)
 abbrev pub IsCurrent : Window → ℤ → Type 0
@@ -34,15 +34,19 @@ may_sign_crls link = link.number == 1 || has_crl_sign link.issuer.extensions.key
 abbrev pub list_held : Holdings → List ℕ → CrlSlot → Option CrlAnswer
 list_held held serial slot = option_map (answer_for serial) (held.crl slot)
 
--- the lists that speak of a certificate, in the order of their slots, and the response
+-- the lists that may revoke a certificate, in the order of their slots, and the response
 pub record Answers : Type 0 where
+  -- whole lists, and those at complete points
   pub lists : List (Option CrlAnswer)
+  -- those at limited points
+  pub limited : List (Option CrlAnswer)
   pub ocsp : Option OcspFact
 
 -- the answers on a certificate of the issuer
 abbrev pub answers_held : Holdings → IssuerIdentity → Certificate → Answers
 answers_held held issuer certificate = record {
-  lists = map (list_held held (body certificate.serial)) (list_slots issuer certificate);
+  lists = map (list_held held (body certificate.serial)) (complete_slots issuer certificate);
+  limited = map (list_held held (body certificate.serial)) (limited_slots issuer certificate);
   ocsp = held.ocsp (record { issuer = issuer; name_hash = sha1 certificate.issuer.octets; serial = body certificate.serial });
 }
 
@@ -95,15 +99,15 @@ abbrev pub listed_reason : ℤ → Bool → List (Option CrlAnswer) → Option �
 listed_reason moment may_sign [] = None
 listed_reason moment may_sign (crl ∷ crls) = option_or (crl_reason moment may_sign crl) (listed_reason moment may_sign crls)
 
--- that of the lists, else of the response
+-- that of the lists, of which those at limited points come last, else of the response
 abbrev pub deciding_reason : ℤ → Evidence → Option ℕ
 deciding_reason moment it =
-    option_or (listed_reason moment it.may_sign_crls it.answers.lists) (ocsp_reason moment it.answers.ocsp)
+    option_or (listed_reason moment it.may_sign_crls (it.answers.lists ++ it.answers.limited)) (ocsp_reason moment it.answers.ocsp)
 
 abbrev pub has_good_response : ℤ → Option OcspFact → Bool
 has_good_response moment response = is_some (kept_if (λ counted. is_good counted.status) (ocsp_that_counts moment response))
 
--- a list counts, or a response that says good does
+-- a whole list or one at a complete point counts, or a response that says good does
 abbrev pub is_covered_by : ℤ → Evidence → Bool
 is_covered_by moment it =
     list_any (λ crl. is_some (crl_that_counts moment it.may_sign_crls crl)) it.answers.lists
@@ -164,8 +168,8 @@ IsRevoked held moment link reason =
 abbrev pub SomeCrlCounts : Holdings → ℤ → Link → CrlSlot → Type 0
 SomeCrlCounts held moment link slot = (fact : CrlFact) × CrlCounts held moment link slot fact
 
--- a list that speaks of the certificate counts, or a response that says good
+-- a whole list that speaks of the certificate or one at a complete point counts, or a response that says good
 abbrev pub IsCovered : Holdings → ℤ → Link → Type 0
 IsCovered held moment link =
-    Any (SomeCrlCounts held moment link) (crl_slots_of link)
+    Any (SomeCrlCounts held moment link) (complete_slots_of link)
     ⊎ ((fact : OcspFact) × OcspCounts held moment link fact × (fact.status ≡ said.Good))

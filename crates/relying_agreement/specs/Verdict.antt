@@ -1,16 +1,17 @@
 -- The verdict on a path (RFC 5280, 6.1 and 6.3; RFC 6960, 2.2).
-use Rattle.std.specs.Prelude.{◌≡◌, ◌↔◌, ℕ, ℤ, List, [], ◌∷◌, ◌++◌, Option, Some, None, map, if◌then◌else◌}
+use Rattle.std.specs.Prelude.{◌≡◌, ◌↔◌, ℕ, ℤ, List, [], ◌∷◌, ◌++◌, Option, Some, None, map, if◌then◌else◌, Contains}
 use Rattle.std.specs.List.{AllByRecursion}
-use Rattle.statements_facts.specs.Statement.{Holdings}
+use Rattle.statements_facts.specs.Statement.{Holdings, CrlSlot, at_point}
 use Rattle.path.specs.declared.reason.Outcome.{Outcome}
 use Rattle.path.specs.declared.reason.Outcome.TheVariants.{Good, Bad}
 use Rattle.path.specs.declared.reason.Reason.{Reason}
 use Rattle.path.specs.Query.{Query, Accepts}
 use Rattle.path.specs.Validity.{IsValidPath, IsFirstFailure, IsOutcome}
+use Rattle.statements.specs.Issuer.{identity_of}
 use Rattle.relying_agreement.specs.declared.verdict.Verdict.{Verdict}
 use Rattle.relying_agreement.specs.declared.verdict.Verdict.TheVariants.{Invalid, Revoked, Unknown, Valid}
-use Rattle.relying_agreement.specs.Link.{Link, links_of}
-use Rattle.relying_agreement.specs.Status.{Evidence, evidence_of, deciding_reason, is_covered_by, IsCovered, IsRevoked, SomeRevokes}
+use Rattle.relying_agreement.specs.Link.{Link, links_of, slots_under}
+use Rattle.relying_agreement.specs.Status.{Evidence, evidence_of, deciding_reason, is_covered_by, IsCovered, IsRevoked, SomeCrlLists, SomeRevokes}
 
 abbrev pub or_revoked : ℕ → Option ℕ → Option (ℕ × ℕ) → Option (ℕ × ℕ)
 or_revoked j None later = later
@@ -75,6 +76,17 @@ ValidExactlyWhere =
     (accepts : Accepts) (query : Query) (held : Holdings) →
     IsVerdict accepts query held Valid
     ↔ (IsValidPath accepts query × AllByRecursion (IsClear held query.moment) (links_of query))
+
+-- A revocation that is held is never hidden: a path is not valid if a list that counts revokes one of its certificates, at whichever of
+-- its points the issuer publishes the list, whatever reasons and cRLIssuer the point has.
+abbrev pub HeldRevocationCounts : Type 0
+HeldRevocationCounts =
+    (accepts : Accepts) (query : Query) (held : Holdings) (link : Link) (point : List ℕ) (slot : CrlSlot) →
+    Contains (links_of query) link →
+    Contains (link.certificate.points.complete ++ link.certificate.points.limited) point →
+    Contains (slots_under link.certificate (at_point point (identity_of link.issuer))) slot →
+    SomeCrlLists held query.moment link slot →
+    ¬ (IsVerdict accepts query held Valid)
 
 -- the first certificate of which it holds: it holds of none before it
 pub record IsFirst (Holds : Link → Type 0) (links : List Link) (link : Link) : Type 0 where

@@ -4,20 +4,21 @@ ghost use Rattle.relying_agreement.specs.Agreement.{AllIsEnough, HeldWasSeen, On
 ghost use Rattle.relying_agreement.specs.Becoming.{OutcomesArePlaces};
 ghost use Rattle.relying_agreement.specs.Comparison.{ComparisonExists, ComparisonIsOne, NeverDiffers};
 ghost use Rattle.relying_agreement.specs.Examples.{AllPremisesHold, NeedsConsistency, NeedsHoldsNewest, NeedsOneVerifier, NeedsSameNewest, StrangersDoNotMatter};
-ghost use Rattle.relying_agreement.specs.KnownVerdicts.{KnownVerdicts, NamesFirstDifference};
+ghost use Rattle.relying_agreement.specs.KnownVerdicts.{KnownVerdicts, NamesDifferenceAtLimitedPoint, NamesFirstDifference};
 ghost use Rattle.relying_agreement.specs.Run.{EachHoldsNewest, RunsCompose, StepsMakeARun};
-ghost use Rattle.relying_agreement.specs.Verdict.{InvalidExactlyWhere, RevokedExactlyWhere, UnknownExactlyWhere, ValidExactlyWhere, VerdictIsOne};
+ghost use Rattle.relying_agreement.specs.Verdict.{HeldRevocationCounts, InvalidExactlyWhere, RevokedExactlyWhere, UnknownExactlyWhere, ValidExactlyWhere, VerdictIsOne};
 
 use path::outcome_laws;
 
 /// A question has one verdict. Each verdict is given exactly if its words hold: a path is valid exactly if it meets all conditions, and of
-/// each certificate a current statement speaks, and none revokes it.
+/// each certificate a current statement speaks, and none revokes it. A list at any point of a certificate revokes it.
 pub fn verdict_laws()
     ensures one { VerdictIsOne }
     ensures invalid { InvalidExactlyWhere }
     ensures valid { ValidExactlyWhere }
     ensures revoked { RevokedExactlyWhere }
     ensures unknown { UnknownExactlyWhere }
+    ensures not_hidden { HeldRevocationCounts }
 {
     outcome_laws();
 }
@@ -68,4 +69,5 @@ pub fn agreement_examples()
     ensures strangers { StrangersDoNotMatter }
     ensures known { KnownVerdicts }
     ensures first_difference { NamesFirstDifference }
+    ensures limited_difference { NamesDifferenceAtLimitedPoint }
 {}

@@ -5,6 +5,7 @@ use Rattle.std.proofs.Math.ListN.{get_or-eq_default}
 use Rattle.std.proofs.lemmas.List.{reverse-append}
 use Rattle.cert.specs.Certificate.{Certificate}
 use Rattle.path.specs.Conditions.{IsNamedByIssuer}
+use Rattle.path.specs.declared.options.Options.{Options}
 use Rattle.path.specs.Query.{Accepts}
 use Rattle.path_issuers.specs.Factors.{AreRight, IssuesFirst}
 use Rattle.path_issuers.specs.Links.{anchor_at, certificate_at}
@@ -31,10 +32,11 @@ neighbours_below P (c ∷ d ∷ above) below all = neighbours_below P (d ∷ abo
 abbrev Names : Certificate → Certificate → Type 0
 Names issuer c = IsNamedByIssuer c issuer.subject
 
-named_right : (accepts : Accepts) (moment : ℤ) (purpose : Option (List ℕ)) (cs : List Certificate) → AreRight accepts moment purpose cs → Neighbours Names cs
-named_right accepts moment purpose [] right = tt
-named_right accepts moment purpose (c ∷ []) right = tt
-named_right accepts moment purpose (c ∷ next ∷ below) right = (right.0.issues.named, named_right accepts moment purpose (next ∷ below) right.1)
+named_right : (options : Options) (accepts : Accepts) (moment : ℤ) (purpose : Option (List ℕ)) (cs : List Certificate)
+    → AreRight options accepts moment purpose cs → Neighbours Names cs
+named_right options accepts moment purpose [] right = tt
+named_right options accepts moment purpose (c ∷ []) right = tt
+named_right options accepts moment purpose (c ∷ next ∷ below) right = (right.0.issues.named, named_right options accepts moment purpose (next ∷ below) right.1)
 
 named_under : (accepts : Accepts) (anchor : Certificate) (cs : List Certificate) → IssuesFirst accepts anchor cs → Neighbours Names cs → Neighbours Names (anchor ∷ cs)
 named_under accepts anchor [] issues named = tt
@@ -61,11 +63,11 @@ leads_up s below (place ∷ above) behind leads there named =
     leads_up s place above rest (below ∷ leads.0, (there.0, here, leads.1)) there.1 whole
 
 pub leads_to_target : (s : Search) (accepts : Accepts) (above : List ℕ) → AllByRecursion (λ place. place < length s.bag) above
-    → AreRight accepts s.moment s.purpose (path_down_to s.target s.bag above) → LeadsToTarget s (top_of (length s.bag) above)
+    → AreRight s.options accepts s.moment s.purpose (path_down_to s.target s.bag above) → LeadsToTarget s (top_of (length s.bag) above)
 leads_to_target s accepts above there right =
     let certs = certificates_at s.target s.bag above in
     leads_up s (length s.bag) above [] ([], refl) there
-    (subst (Neighbours Names) (down_to s above) (named_right accepts s.moment s.purpose (path_down_to s.target s.bag above) right))
+    (subst (Neighbours Names) (down_to s above) (named_right s.options accepts s.moment s.purpose (path_down_to s.target s.bag above) right))
 
 module _ (s : Search) (IsAsked : Certificate → Certificate → Type 0)
     (asked : (issuer : Issuer) (below : ℕ) → IsSearchQuestion s (record { issuer = issuer; certificate = below })
@@ -102,10 +104,10 @@ module _ (s : Search) (IsAsked : Certificate → Certificate → Type 0)
 
   -- those of a tail
   pub tail_asked : (accepts : Accepts) (above : List ℕ) → AllByRecursion (λ place. place < length s.bag) above
-      → AreRight accepts s.moment s.purpose (path_down_to s.target s.bag above) → Neighbours IsAsked (path_down_to s.target s.bag above)
+      → AreRight s.options accepts s.moment s.purpose (path_down_to s.target s.bag above) → Neighbours IsAsked (path_down_to s.target s.bag above)
   tail_asked accepts above there right =
       asked_to_target [] (λ below behind leads named so_far. so_far) above there
-      (named_right accepts s.moment s.purpose (path_down_to s.target s.bag above) right)
+      (named_right s.options accepts s.moment s.purpose (path_down_to s.target s.bag above) right)
 
   under_anchor : (anchor : ℕ) → anchor < length s.anchors → MayStandAbove (anchor_at s anchor ∷ [])
   under_anchor anchor there below behind leads named so_far =
@@ -118,4 +120,4 @@ module _ (s : Search) (IsAsked : Certificate → Certificate → Type 0)
       let factors = (valid_path_factors accepts (query_about s c)).0 valid.valid in
       let certs = path_down_to s.target s.bag c.above in
       asked_to_target (anchor_at s c.anchor ∷ []) (under_anchor c.anchor valid.candidate.anchor) c.above valid.candidate.above
-      (named_under accepts (anchor_at s c.anchor) certs factors.1 (named_right accepts s.moment s.purpose certs factors.2))
+      (named_under accepts (anchor_at s c.anchor) certs factors.1 (named_right s.options accepts s.moment s.purpose certs factors.2))

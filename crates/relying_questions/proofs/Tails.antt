@@ -1,6 +1,7 @@
 -- Verifiers that answer alike about the pairs of a search have the same right tails.
 use Rattle.std.proofs.Common.{◌≡◌, ℕ, ℤ, List, [], ◌∷◌, Option, sym, ◌∙◌}
 use Rattle.cert.specs.Certificate.{Certificate}
+use Rattle.path.specs.declared.options.Options.{Options}
 use Rattle.path.specs.Query.{Accepts}
 use Rattle.path_issuers.specs.Factors.{AreRight}
 use Rattle.path_issuers.specs.Links.{certificate_at}
@@ -22,11 +23,11 @@ PairsAlike accepts other s =
     → SignedAlike accepts other (issuer_at s issuer) (certificate_at s below)
 
 module _ (accepts other : Accepts) where
-  right_too : (moment : ℤ) (purpose : Option (List ℕ)) (cs : List Certificate) → AreRight accepts moment purpose cs
-      → Neighbours (SignedAlike accepts other) cs → AreRight other moment purpose cs
-  right_too moment purpose [] right all = right
-  right_too moment purpose (c ∷ []) right all = right
-  right_too moment purpose (c ∷ next ∷ below) right all = (
+  right_too : (options : Options) (moment : ℤ) (purpose : Option (List ℕ)) (cs : List Certificate) → AreRight options accepts moment purpose cs
+      → Neighbours (SignedAlike accepts other) cs → AreRight options other moment purpose cs
+  right_too options moment purpose [] right all = right
+  right_too options moment purpose (c ∷ []) right all = right
+  right_too options moment purpose (c ∷ next ∷ below) right all = (
     record {
       authority = right.0.authority;
       issues = record { named = right.0.issues.named; signed = sym all.0 ∙ right.0.issues.signed };
@@ -34,13 +35,13 @@ module _ (accepts other : Accepts) where
       length = right.0.length;
       names = right.0.names;
     },
-    right_too moment purpose (next ∷ below) right.1 all.1,
+    right_too options moment purpose (next ∷ below) right.1 all.1,
   )
 
   module _ (s : Search) (alike : PairsAlike accepts other s) where
     pub tail_too : (above : List ℕ) → IsRightTail accepts s above → IsRightTail other s above
     tail_too above is = record {
       there = is.there;
-      right = right_too s.moment s.purpose (path_down_to s.target s.bag above) is.right
+      right = right_too s.options s.moment s.purpose (path_down_to s.target s.bag above) is.right
           (tail_asked s (SignedAlike accepts other) alike accepts above is.there is.right);
     }

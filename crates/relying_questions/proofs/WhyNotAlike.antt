@@ -5,6 +5,7 @@ use Rattle.std.proofs.lemmas.List.{get_or-map, get_or_default, length-map}
 use Rattle.std.proofs.lemmas.List.Elements.{Contains-get_or}
 use Rattle.cert.specs.Certificate.{Certificate}
 use Rattle.path.specs.Conditions.{IsNamedByIssuer, IsSignedByIssuer}
+use Rattle.path.specs.declared.options.Options.{Options}
 use Rattle.path.specs.Query.{Accepts}
 use Rattle.path.specs.declared.reason.Reason.{Reason}
 use Rattle.path.specs.declared.reason.Reason.TheVariants.{Repeated, Signature, NotYet, Expired, Issuer, NotPermitted, Excluded, ConstraintForm, NotCa, PathLength, KeyCertSign, Policy, CriticalUnknown, Purpose, Empty, TooLong, NoValidPolicy, AnyPolicyMapped, NoUserPolicy}
@@ -28,8 +29,8 @@ use Rattle.relying_questions.proofs.Prints.{alike}
 use Rattle.relying_questions.proofs.Tails.{PairsAlike, tail_too}
 
 -- the conditions, by another answer to whether the top is signed
-module _ (A B : Type 0) (f : A → B) (moment : ℤ) (c : Certificate) (below : List Certificate) where
-  meets_by : (r : Reason) → MeetsAbove A moment c below r → MeetsAbove B moment c below r
+module _ (options : Options) (A B : Type 0) (f : A → B) (moment : ℤ) (c : Certificate) (below : List Certificate) where
+  meets_by : (r : Reason) → MeetsAbove options A moment c below r → MeetsAbove options B moment c below r
   meets_by Repeated met = met
   meets_by Signature met = f met
   meets_by NotYet met = met
@@ -107,8 +108,8 @@ module _ (accepts other : Accepts) (s : Search) (there : PairsAlike accepts othe
         let below = path_down_to s.target s.bag above in
         let signs = bag_alike o.place named in
         record {
-          broken = λ met. first.broken (meets_by (IsSignedByIssuer other top key) (IsSignedByIssuer accepts top key) signs.1 s.moment c below o.reason met);
-          lesser = λ reason less. meets_by (IsSignedByIssuer accepts top key) (IsSignedByIssuer other top key) signs.0 s.moment c below reason (first.lesser reason less);
+          broken = λ met. first.broken (meets_by s.options (IsSignedByIssuer other top key) (IsSignedByIssuer accepts top key) signs.1 s.moment c below o.reason met);
+          lesser = λ reason less. meets_by s.options (IsSignedByIssuer accepts top key) (IsSignedByIssuer other top key) signs.0 s.moment c below reason (first.lesser reason less);
         }
 
 obstacle_place : (obstacles : List Obstacle) (k : ℕ) (d : Obstacle) → k < length obstacles → Contains (places_of_obstacles obstacles) (get_or obstacles k d).place

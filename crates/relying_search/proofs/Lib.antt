@@ -6,4 +6,5 @@ mod AmongStanding
 mod AmongSame
 mod Every
 mod Ending
+mod Reasons
 pub mod AmongLaws

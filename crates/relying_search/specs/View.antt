@@ -23,5 +23,9 @@ abbrev pub seen_evidence : known.Evidence → Evidence
 seen_evidence it = record {
   number = it.number;
   may_sign_crls = it.may_sign_crls;
-  answers = record { lists = seen_lists it.lists.items; ocsp = option_map seen_ocsp it.ocsp };
+  answers = record {
+    lists = seen_lists it.lists.items;
+    limited = seen_lists it.limited.items;
+    ocsp = option_map seen_ocsp it.ocsp;
+  };
 }

@@ -1,6 +1,6 @@
 //! What bears on a certificate of a path, and what it says (RFC 5280, 6.3.3; RFC 6960, 2.2).
 
-ghost use Rattle.std.specs.Prelude.{◌≡◌, ◌&&◌, is_some, option_map};
+ghost use Rattle.std.specs.Prelude.{◌≡◌, ◌&&◌, ◌++◌, is_some, option_map};
 ghost use Rattle.std.specs.List.{list_any};
 ghost use Rattle.relying_agreement.specs.Status.{crl_reason, crl_that_counts, deciding_reason, has_good_response, is_covered_by, is_current, is_good, kept_if, listed_reason, ocsp_reason, ocsp_that_counts, reason_of_status};
 ghost use Rattle.relying_search.specs.View.{seen_evidence, seen_lists};
@@ -16,8 +16,10 @@ pub struct Evidence {
     /// Whether its issuer may sign lists.
     pub may_sign_crls: bool,
     /// What the newest lists that speak of it say, in the order in which they decide: of whole lists that of all certificates and that of its
-    /// kind, and then the same at each of its points.
+    /// kind, and then the same at each of its complete points.
     pub lists: Vec<Option<CrlAnswer>>,
+    /// The same at each of its limited points: such a list may revoke it, but does not say that it is not revoked (RFC 5280, 4.2.1.13).
+    pub limited: Vec<Option<CrlAnswer>>,
     /// What the newest response says.
     pub ocsp: Option<OcspAnswer>,
 }
@@ -126,15 +128,24 @@ fn has_good_response(said: Option<OcspAnswer>, moment: i64) -> bool
 }
 
 impl Evidence {
-    /// Why the certificate is revoked at the moment, if it is: the reason of the first list that gives one, else of the response.
+    /// The reason of the first list that gives one, those at limited points last.
+    fn reason_of_lists(&self, moment: i64) -> Option<u8>
+        ensures { result ≡ listed_reason moment self.now.may_sign_crls
+            (seen_lists self.now.lists.items ++ seen_lists self.now.limited.items) }
+    {
+        let limited = listed_reason(&self.limited, self.may_sign_crls, moment);
+        listed_reason(&self.lists, self.may_sign_crls, moment).or(limited)
+    }
+
+    /// Why the certificate is revoked at the moment, if it is: the reason of the first list that gives one, else that of the response.
     pub fn reason(&self, moment: i64) -> Option<u8>
         ensures { result ≡ deciding_reason moment (seen_evidence self.now) }
     {
         let told = ocsp_reason(self.ocsp, moment);
-        listed_reason(&self.lists, self.may_sign_crls, moment).or(told)
+        self.reason_of_lists(moment).or(told)
     }
 
-    /// Whether a statement speaks of the certificate: a list that counts, or a response that says good.
+    /// Whether a statement speaks of the certificate: a whole list or one at a complete point that counts, or a response that says good.
     pub fn is_covered(&self, moment: i64) -> bool
         ensures { result ≡ is_covered_by moment (seen_evidence self.now) }
     {

@@ -1,10 +1,7 @@
 -- What bears on a certificate, by what was found in its slots.
-use Rattle.std.proofs.Common.{◌≡◌, ℕ, ◌+◌, ◌<◌, ◌≤◌, Bool, List, [], ◌∷◌, ◌++◌, map, length, take, get_or, Option, None, option_map, filter_map, refl, sym, ap, ◌∙◌, append-nil, append_assoc}
-use Rattle.std.specs.Borrow.{Bor}
+use Rattle.std.proofs.Common.{◌≡◌, ℕ, Bool, List, [], ◌∷◌, ◌++◌, map, Option, None, option_map, filter_map, sym, ap, ◌∙◌, append-nil, append_assoc}
 use Rattle.std.specs.List.{flat_map}
-use Rattle.std.proofs.lemmas.List.{map-append, take_more, take_all}
-use Rattle.std.proofs.lemmas.List.Concat.{flat_map-append}
-use Rattle.std.proofs.lemmas.List.Folds.{flat_map-map}
+use Rattle.std.proofs.lemmas.List.{map-append}
 use Rattle.asn.specs.Place.{body}
 use Rattle.statements_facts.specs.Fact.{Fact}
 use Rattle.statements_facts.specs.Statement.{IssuerIdentity, CrlSlot, CrlAnswer, OcspFact, answer_for, at_point}
@@ -13,8 +10,8 @@ use Rattle.statements_facts.specs.declared.answer.CrlAnswer as listed
 use Rattle.statements_facts.specs.Coming.{crl_for, ocsp_for}
 use Rattle.statements_facts.proofs.Laws.{crls_keep_newest, responses_keep_newest}
 use Rattle.statements.specs.Issuer.{identity_of}
-use Rattle.relying_agreement.specs.Link.{Link, crl_slots_of, links_of, ocsp_slot_for, slots_under}
-use Rattle.relying_agreement.proofs.Laws.{place_by_place}
+use Rattle.relying_agreement.specs.Link.{Link, complete_slots_of, limited_slots_of, links_of, ocsp_slot_for, slots_under}
+use Rattle.relying_agreement.proofs.Laws.{place_by_place, point_by_point}
 use Rattle.relying_agreement.specs.Status.{Evidence, evidence_of, may_sign_crls, list_held}
 use Rattle.relying_agreement.specs.Verdict.{verdict_by}
 use Rattle.relying_agreement.specs.declared.verdict.Verdict.{Verdict}
@@ -23,7 +20,7 @@ use Rattle.cert.specs.Certificate.{Certificate}
 use Rattle.statements.specs.Statement.{Statement}
 use Rattle.relying_texts.specs.Texts.{facts_told, evidence_told}
 use Rattle.relying_search.specs.View.{seen_lists}
-use Rattle.relying_texts.specs.Told.{AreToldUpTo, all_lists_told, list_told, lists_told, response_told}
+use Rattle.relying_texts.specs.Told.{complete_lists_told, limited_lists_told, list_told, response_told}
 use Rattle.relying_texts.specs.View.{held_of}
 
 -- the newest of the facts of a slot is what is held there
@@ -34,45 +31,31 @@ told_is_held facts serial slot = ap (option_map (answer_for serial)) (crls_keep_
 anywhere : (issuer : IssuerIdentity) → at_point [] issuer ≡ issuer
 anywhere issuer = λ i. record { name = append-nil issuer.name i; key_info = issuer.key_info }
 
-lists_are : (facts : List Fact) (link : Link)
-    → all_lists_told facts link ≡ map (list_held (held_of facts) (body link.certificate.serial)) (crl_slots_of link)
-lists_are facts link =
+complete_are : (facts : List Fact) (link : Link)
+    → complete_lists_told facts link ≡ map (list_held (held_of facts) (body link.certificate.serial)) (complete_slots_of link)
+complete_are facts link =
     let serial = body link.certificate.serial in
     let issuer = identity_of link.issuer in
     (λ i. map (λ slot. told_is_held facts serial slot i) (slots_under link.certificate (anywhere issuer i))
-    ++ flat_map (λ point. map (λ slot. told_is_held facts serial slot i) (slots_under link.certificate (at_point point issuer))) link.certificate.points)
+    ++ flat_map (λ point. map (λ slot. told_is_held facts serial slot i) (slots_under link.certificate (at_point point issuer))) link.certificate.points.complete)
     ∙ sym (place_by_place (list_held (held_of facts) serial) issuer link.certificate)
 
-pub bears : (facts : List Fact) (link : Link) (may : Bool) (lists : List (Option CrlAnswer)) (ocsp : Option OcspFact)
-    → may ≡ may_sign_crls link → lists ≡ all_lists_told facts link → ocsp ≡ response_told facts link
-    → ◌≡◌ {A = Evidence} (record { number = link.number; may_sign_crls = may; answers = record { lists = lists; ocsp = ocsp } }) (evidence_of (held_of facts) link)
-bears facts link may lists ocsp may_is lists_told_are ocsp_is =
-    let lists_held = lists_told_are ∙ lists_are facts link in
+limited_are : (facts : List Fact) (link : Link)
+    → limited_lists_told facts link ≡ map (list_held (held_of facts) (body link.certificate.serial)) (limited_slots_of link)
+limited_are facts link =
+    let serial = body link.certificate.serial in
+    let issuer = identity_of link.issuer in
+    (λ i. flat_map (λ point. map (λ slot. told_is_held facts serial slot i) (slots_under link.certificate (at_point point issuer))) link.certificate.points.limited)
+    ∙ sym (point_by_point (list_held (held_of facts) serial) link.certificate.points.limited issuer link.certificate)
+
+pub bears : (facts : List Fact) (link : Link) (may : Bool) (lists limited : List (Option CrlAnswer)) (ocsp : Option OcspFact)
+    → may ≡ may_sign_crls link → lists ≡ complete_lists_told facts link → limited ≡ limited_lists_told facts link → ocsp ≡ response_told facts link
+    → ◌≡◌ {A = Evidence} (record { number = link.number; may_sign_crls = may; answers = record { lists = lists; limited = limited; ocsp = ocsp } }) (evidence_of (held_of facts) link)
+bears facts link may lists limited ocsp may_is lists_told_are limited_told_are ocsp_is =
+    let lists_held = lists_told_are ∙ complete_are facts link in
+    let limited_held = limited_told_are ∙ limited_are facts link in
     let response_held : ocsp ≡ (held_of facts).ocsp (ocsp_slot_for link) = ocsp_is ∙ responses_keep_newest.held None (filter_map (ocsp_for (ocsp_slot_for link)) facts) in
-    λ i. record { number = link.number; may_sign_crls = may_is i; answers = record { lists = lists_held i; ocsp = response_held i } }
-
--- one more point
-pub one_more : (facts : List Fact) (link : Link) (points : List (Bor (List ℕ))) (i : ℕ) (d : Bor (List ℕ)) (lists more : List (Option CrlAnswer))
-    → i < length points → more ≡ lists ++ lists_told facts link (get_or points i d).now
-    → AreToldUpTo facts link points i lists → AreToldUpTo facts link points (i + 1) more
-one_more facts link points i d lists more below pushed so_far =
-    let at : Bor (List ℕ) → List (Option CrlAnswer) = λ point. lists_told facts link point.now in
-    pushed
-    ∙ ap (λ l. l ++ at (get_or points i d)) so_far
-    ∙ append_assoc (lists_told facts link []) (flat_map at (take i points)) (at (get_or points i d))
-    ∙ ap (λ l. lists_told facts link [] ++ (flat_map at (take i points) ++ l)) (sym (append-nil (at (get_or points i d))))
-    ∙ ap (λ l. lists_told facts link [] ++ l) (sym (flat_map-append at (take i points) (get_or points i d ∷ [])) ∙ ap (flat_map at) (sym (take_more points i d below)))
-
-pub all_points : (facts : List Fact) (link : Link) (points : List (Bor (List ℕ))) (i : ℕ) (lists : List (Option CrlAnswer))
-    → length points ≤ i → map (λ (point : Bor (List ℕ)). point.now) points ≡ link.certificate.points
-    → AreToldUpTo facts link points i lists → lists ≡ all_lists_told facts link
-all_points facts link points i lists le points_are so_far =
-    let at : Bor (List ℕ) → List (Option CrlAnswer) = λ point. lists_told facts link point.now in
-    so_far
-    ∙ ap (λ l. lists_told facts link [] ++ l)
-    (ap (flat_map at) (take_all i points le)
-    ∙ sym (flat_map-map (lists_told facts link) (λ (point : Bor (List ℕ)). point.now) points)
-    ∙ ap (flat_map (lists_told facts link)) points_are)
+    λ i. record { number = link.number; may_sign_crls = may_is i; answers = record { lists = lists_held i; limited = limited_held i; ocsp = response_held i } }
 
 -- the verdict by what was gathered is that by what the statements tell
 pub decided : (accepts : Accepts) (query : Query) (statements : List Statement) (facts : List Fact) (links : List Link) (issuers : List Certificate) (verdict : Verdict)

@@ -1,8 +1,7 @@
 -- What the facts that statements tell say of a certificate, slot by slot.
-use Rattle.std.specs.Prelude.{◌≡◌, ℕ, List, [], ◌++◌, map, take, Option, None, option_map}
+use Rattle.std.specs.Prelude.{ℕ, List, [], ◌++◌, map, Option, None, option_map}
 use Rattle.std.specs.Borrow.{Bor}
 use Rattle.std.specs.List.{filter_map, flat_map}
-use Rattle.sha1.specs.Sha1.{sha1}
 use Rattle.cert.specs.Place.{body}
 use Rattle.statements_facts.specs.Fact.{Fact}
 use Rattle.statements_facts.specs.Statement.{CrlAnswer, CrlSlot, OcspFact, answer_for, at_point}
@@ -20,14 +19,21 @@ abbrev pub lists_told : List Fact → Link → List ℕ → List (Option CrlAnsw
 lists_told facts link point =
     map (list_told facts (body link.certificate.serial)) (slots_under link.certificate (at_point point (identity_of link.issuer)))
 
--- anywhere, and at the points of the certificate
-abbrev pub all_lists_told : List Fact → Link → List (Option CrlAnswer)
-all_lists_told facts link = lists_told facts link [] ++ flat_map (lists_told facts link) link.certificate.points
+-- at each of these points
+abbrev pub lists_told_at : List Fact → Link → List (List ℕ) → List (Option CrlAnswer)
+lists_told_at facts link points = flat_map (lists_told facts link) points
 
--- anywhere, and at so many of the points
-abbrev pub AreToldUpTo : List Fact → Link → List (Bor (List ℕ)) → ℕ → List (Option CrlAnswer) → Type 0
-AreToldUpTo facts link points count lists =
-    lists ≡ lists_told facts link [] ++ flat_map (λ point. lists_told facts link point.now) (take count points)
+-- anywhere, and at the complete points of the certificate
+abbrev pub complete_lists_told : List Fact → Link → List (Option CrlAnswer)
+complete_lists_told facts link = lists_told facts link [] ++ lists_told_at facts link link.certificate.points.complete
+
+-- at its limited points
+abbrev pub limited_lists_told : List Fact → Link → List (Option CrlAnswer)
+limited_lists_told facts link = lists_told_at facts link link.certificate.points.limited
+
+-- the points that the code has at hand
+abbrev pub point_names : List (Bor (List ℕ)) → List (List ℕ)
+point_names points = map (λ point. point.now) points
 
 abbrev pub response_told : List Fact → Link → Option OcspFact
 response_told facts link = held_after newer_ocsp None (filter_map (ocsp_for (ocsp_slot_for link)) facts)

@@ -28,7 +28,7 @@ use Rattle.relying_texts.specs.declared.contents.GenuineStatement as genuine
 -- no certificate of the path carries a subtree of a processed form
 abbrev pub CarriesNoSubtrees : asked.Query → Type 0
 CarriesNoSubtrees query =
-    CarryNoSubtrees query.anchor query.path.items query.moment query.purpose
+    CarryNoSubtrees query.anchor query.path.items query.moment query.purpose query.options
 
 -- the issuers of links, in order
 abbrev pub issuers_in : List linked.Link → List Certificate

@@ -10,14 +10,14 @@ ghost use Rattle.statements_facts.specs.Answer.{seen_ocsp};
 ghost use Rattle.path.specs.Reading.{seen_query};
 ghost use Rattle.statements.specs.Statement.{seen_statement};
 ghost use Rattle.relying_texts.specs.Texts.{IsVerdictByStatements, evidence_told};
-ghost use Rattle.relying_texts.specs.Told.{all_lists_told, lists_told, response_told};
+ghost use Rattle.relying_texts.specs.Told.{complete_lists_told, limited_lists_told, lists_told, lists_told_at, point_names, response_told};
 ghost use Rattle.relying_texts.specs.View.{CarriesNoSubtrees, facts_in_all, held_of};
 
 use crate::contents::GenuineStatement;
 use crate::gathering::genuine_statements;
 use crate::newest::list_answer;
 use crate::responses::response_answer;
-use path::{Outcome, Query, validate};
+use path::{Outcome, Query, validate_with};
 use path_verifiers::Verifier;
 use relying_agreement::Verdict;
 use relying_search::{Evidence, Link, links_of, may_sign_crls, own_scope};
@@ -43,20 +43,50 @@ fn push_lists_at(
     Ok(())
 }
 
-/// What the newest lists say that speak of the certificate: those that are published anywhere, and those at its points.
-fn lists_on(
+/// The same at each of these points.
+fn push_lists_at_each(
+    lists: &mut Vec<Option<CrlAnswer>>,
+    link: &Link<'_, '_>,
+    genuine: &[GenuineStatement<'_, '_, '_>],
+    points: &[&[u8]],
+) -> Result<(), AllocError>
+    ensures { OnOk result (seen_lists lists.new.items ≡ seen_lists lists.old.items
+        ++ lists_told_at (facts_in_all genuine.now) (seen_link link.now) (point_names points.now)) }
+{
+    for point in points {
+        push_lists_at(lists, link, genuine, point)?;
+    }
+    Ok(())
+}
+
+/// What the newest lists say that speak of the certificate: those that are published anywhere, and those at its complete points.
+fn complete_lists_on(
     alloc: Global,
     link: &Link<'_, '_>,
     genuine: &[GenuineStatement<'_, '_, '_>],
 ) -> Result<Vec<Option<CrlAnswer>>, AllocError>
     ensures { IfOk result (λ lists. seen_lists lists.items
-        ≡ all_lists_told (facts_in_all genuine.now) (seen_link link.now)) }
+        ≡ complete_lists_told (facts_in_all genuine.now) (seen_link link.now)) }
 {
     let mut lists = Vec::new(alloc);
     push_lists_at(&mut lists, link, genuine, &[])?;
-    for point in link.certificate.points.as_slice() {
-        push_lists_at(&mut lists, link, genuine, point)?;
-    }
+    let points = link.certificate.points.complete.as_slice();
+    push_lists_at_each(&mut lists, link, genuine, points)?;
+    Ok(lists)
+}
+
+/// What the newest lists say at the limited points of the certificate.
+fn limited_lists_on(
+    alloc: Global,
+    link: &Link<'_, '_>,
+    genuine: &[GenuineStatement<'_, '_, '_>],
+) -> Result<Vec<Option<CrlAnswer>>, AllocError>
+    ensures { IfOk result (λ lists. seen_lists lists.items
+        ≡ limited_lists_told (facts_in_all genuine.now) (seen_link link.now)) }
+{
+    let mut lists = Vec::new(alloc);
+    let points = link.certificate.points.limited.as_slice();
+    push_lists_at_each(&mut lists, link, genuine, points)?;
     Ok(lists)
 }
 
@@ -82,7 +112,8 @@ fn evidence_of(
     Ok(Evidence {
         number: link.number,
         may_sign_crls: may_sign_crls(link),
-        lists: lists_on(alloc, link, genuine)?,
+        lists: complete_lists_on(alloc, link, genuine)?,
+        limited: limited_lists_on(alloc, link, genuine)?,
         ocsp: response_on(link, genuine),
     })
 }
@@ -170,12 +201,13 @@ fn verdict_by_statements<V: Verifier>(
 
 /// The verdict on a path by statements, lists and responses in any order: that of a relying party that began with nothing and was
 /// delivered each statement with the certificate of each issuer of the path. A statement that is genuine for none of the issuers changes
-/// nothing. The path is validated first, and statements are looked at only if it is valid. The only error is lack of memory.
+/// nothing. The path is validated first, with the options of the question, and statements are looked at only if it is valid. The only error
+/// is lack of memory.
 ///
 /// The verifier is asked about a list once for each issuer whose name it has, about a response once for each
 /// issuer and for each certificate that comes with it. For each certificate of the path at most two lists are walked over once more, the
-/// newest of either scope, and as many at each of its points. Memory is taken for the certificates of the path, for genuine statements and for the certificates that come
-/// with responses, but not for the entries of lists.
+/// newest of either scope, and as many at each of its points. Memory is taken for the certificates of the path, for genuine statements and
+/// for the certificates that come with responses, but not for the entries of lists.
 pub fn verdict<V: Verifier>(
     alloc: Global,
     verifier: &V,
@@ -189,8 +221,8 @@ pub fn verdict<V: Verifier>(
         → IsValidPath (V.accepts verifier.now) (seen_query query.now)) }
 {
     let (anchor, path) = (&query.anchor, query.path.as_slice());
-    let (moment, purpose) = (query.moment, query.purpose);
-    match validate(alloc, verifier, anchor, path, moment, purpose)? {
+    let (moment, purpose, options) = (query.moment, query.purpose, query.options);
+    match validate_with(alloc, verifier, anchor, path, moment, purpose, options)? {
         Outcome::Bad(number, reason) => Ok(Verdict::Invalid(number, reason)),
         Outcome::Good => verdict_by_statements(alloc, verifier, query, statements),
     }

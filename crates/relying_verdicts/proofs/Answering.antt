@@ -1,21 +1,21 @@
 -- What look-ups answer, as what bears on a certificate.
-use Rattle.std.proofs.Common.{◌≡◌, ℕ, ◌+◌, Bool, true, List, [], ◌∷◌, ◌++◌, map, Option, option_map, sym, ap, ap₂, ◌∙◌, if◌then◌else◌}
+use Rattle.std.proofs.Common.{◌≡◌, ℕ, ◌+◌, Bool, true, List, [], ◌∷◌, ◌++◌, map, option_map, sym, ap, ap₂, ◌∙◌, if◌then◌else◌}
 use Rattle.sha1.specs.Sha1.{sha1}
 use Rattle.asn.specs.Place.{body}
 use Rattle.cert.specs.Certificate.{Certificate}
 use Rattle.statements_facts.specs.declared.answer.Answers as listed
-use Rattle.statements_facts.specs.declared.answer.CrlAnswer.{CrlAnswer}
 use Rattle.statements_facts.specs.declared.scope.Scope.{Scope}
 use Rattle.statements_facts.specs.declared.scope.Scope.TheVariants.{All}
 use Rattle.statements_facts.specs.Answer.{seen_crl, seen_ocsp}
 use Rattle.statements_facts.specs.Statement.{IssuerIdentity, Holdings}
 use Rattle.statements.specs.Issuer.{identity_of}
-use Rattle.relying_agreement.specs.Link.{Link, list_slots, own_scope}
+use Rattle.relying_agreement.specs.Link.{Link, complete_slots, limited_slots, own_scope}
 use Rattle.relying_agreement.specs.Status.{evidence_of, may_sign_crls, list_held, answers_held}
-use Rattle.relying_agreement.proofs.Laws.{place_by_place}
+use Rattle.relying_agreement.proofs.Laws.{place_by_place, point_by_point}
 use Rattle.relying_search.specs.declared.evidence.Evidence as known
 use Rattle.relying_search.specs.View.{seen_evidence, seen_lists}
-use Rattle.relying_verdicts.specs.Found.{AreAnswersOn, AreListsAt, IsAssembled, lists_in}
+use Rattle.relying_verdicts.specs.declared.looking.ListsAtPoints.{ListsAtPoints}
+use Rattle.relying_verdicts.specs.Found.{AreAnswersOn, AreListsAtPoints, IsAssembled, lists_in}
 
 pub answers_are : (held : Holdings) (issuer : IssuerIdentity) (certificate : Certificate) (kind : Scope) (serial hash : List ℕ) (answers : listed.Answers)
     → kind ≡ own_scope certificate → serial ≡ body certificate.serial → hash ≡ sha1 certificate.issuer.octets
@@ -34,18 +34,22 @@ answers_are held issuer certificate kind serial hash answers kind_is serial_is h
       ∙ ap (λ s. held.ocsp (record { issuer = issuer; name_hash = sha1 certificate.issuer.octets; serial = s })) serial_is;
 }
 
-pub evidence_is : (held : Holdings) (link : Link) (issuer : IssuerIdentity) (answers : listed.Answers) (at_points : List (Option CrlAnswer)) (it : known.Evidence)
+pub evidence_is : (held : Holdings) (link : Link) (issuer : IssuerIdentity) (answers : listed.Answers) (at_points : ListsAtPoints) (it : known.Evidence)
     → issuer ≡ identity_of link.issuer → IsAssembled link answers at_points it
-    → AreAnswersOn issuer link.certificate held answers → AreListsAt issuer link.certificate link.certificate.points held at_points
+    → AreAnswersOn issuer link.certificate held answers → AreListsAtPoints issuer link.certificate held at_points
     → seen_evidence it ≡ evidence_of held link
-evidence_is held link issuer answers at_points it issuer_is assembled are at_them_are =
-    let lists : lists_in answers ++ seen_lists at_points ≡ map (list_held held (body link.certificate.serial)) (list_slots (identity_of link.issuer) link.certificate) =
-    ap₂ (λ here there. here ++ there) are.lists at_them_are
+evidence_is held link issuer answers at_points it issuer_is assembled are at_them =
+    let lists : lists_in answers ++ seen_lists at_points.complete.items ≡ map (list_held held (body link.certificate.serial)) (complete_slots (identity_of link.issuer) link.certificate) =
+    ap₂ (λ here there. here ++ there) are.lists at_them.complete
     ∙ sym (place_by_place (list_held held (body link.certificate.serial)) issuer link.certificate)
-    ∙ ap (λ i. map (list_held held (body link.certificate.serial)) (list_slots i link.certificate)) issuer_is in
+    ∙ ap (λ i. map (list_held held (body link.certificate.serial)) (complete_slots i link.certificate)) issuer_is in
+    let limited : seen_lists at_points.limited.items ≡ map (list_held held (body link.certificate.serial)) (limited_slots (identity_of link.issuer) link.certificate) =
+    at_them.limited
+    ∙ sym (point_by_point (list_held held (body link.certificate.serial)) link.certificate.points.limited issuer link.certificate)
+    ∙ ap (λ i. map (list_held held (body link.certificate.serial)) (limited_slots i link.certificate)) issuer_is in
     let ocsp : option_map seen_ocsp answers.ocsp ≡ (answers_held held (identity_of link.issuer) link.certificate).ocsp =
     are.ocsp ∙ ap (λ i. (answers_held held i link.certificate).ocsp) issuer_is in
-    assembled ∙ (λ i. record { number = link.number; may_sign_crls = may_sign_crls link; answers = record { lists = lists i; ocsp = ocsp i } })
+    assembled ∙ (λ i. record { number = link.number; may_sign_crls = may_sign_crls link; answers = record { lists = lists i; limited = limited i; ocsp = ocsp i } })
 
 -- what a list is after a push that succeeded
 pub pushed : {A : Type 0} (ok : Bool) (more same now : List A) → ok ≡ true → now ≡ (if ok then more else same) → now ≡ more

@@ -1,5 +1,6 @@
 mod Answering
 mod Chains
+mod Covering
 mod Differing
 mod Opening
 mod Links

@@ -1,5 +1,6 @@
 -- What is found of a certificate in a store.
 use Rattle.std.specs.Prelude.{◌≡◌, ℕ, List, [], ◌∷◌, ◌++◌, map, Option, option_map}
+use Rattle.std.specs.Borrow.{Bor}
 use Rattle.std.specs.List.{flat_map}
 use Rattle.sha1.specs.Sha1.{sha1}
 use Rattle.asn.specs.Place.{body}
@@ -15,6 +16,7 @@ use Rattle.relying_agreement.specs.Verdict.{evidence_on}
 use Rattle.relying_agreement.specs.declared.verdict.Comparison.{Comparison}
 use Rattle.statements_facts.specs.declared.answer.Answers.{Answers}
 use Rattle.relying_verdicts.specs.Difference.{ComparesEvidence}
+use Rattle.relying_verdicts.specs.declared.looking.ListsAtPoints.{ListsAtPoints}
 use Rattle.relying_search.specs.View.{seen_evidence, seen_lists}
 use Rattle.relying_search.specs.declared.evidence.Evidence as known
 
@@ -37,17 +39,27 @@ abbrev pub AreListsAt : IssuerIdentity → Certificate → List (List ℕ) → H
 AreListsAt issuer certificate points held lists =
     seen_lists lists ≡ flat_map (λ point. lists_held_under held certificate (at_point point issuer)) points
 
-abbrev pub AreListsAtPoints : IssuerIdentity → Certificate → Holdings → Vec (Option listed.CrlAnswer) → Type 0
-AreListsAtPoints issuer certificate held lists = AreListsAt issuer certificate certificate.points held lists.items
+abbrev pub AreFoundAt : IssuerIdentity → Certificate → List (Bor (List ℕ)) → Holdings → Vec (Option listed.CrlAnswer) → Type 0
+AreFoundAt issuer certificate points held lists =
+    AreListsAt issuer certificate (map (λ (point : Bor (List ℕ)). point.now) points) held lists.items
+
+-- those at its complete points, and those at its limited ones
+pub record AreListsAtPoints (issuer : IssuerIdentity) (certificate : Certificate) (held : Holdings) (found : ListsAtPoints) : Type 0 where
+  pub complete : AreListsAt issuer certificate certificate.points.complete held found.complete.items
+  pub limited : AreListsAt issuer certificate certificate.points.limited held found.limited.items
 
 -- what bears on a certificate: what both lists say, and then those at its points, and the response
-abbrev pub IsAssembled : Link → Answers → List (Option listed.CrlAnswer) → known.Evidence → Type 0
+abbrev pub IsAssembled : Link → Answers → ListsAtPoints → known.Evidence → Type 0
 IsAssembled link answers at_points it =
     seen_evidence it
     ≡ (record {
       number = link.number;
       may_sign_crls = may_sign_crls link;
-      answers = record { lists = lists_in answers ++ seen_lists at_points; ocsp = option_map seen_ocsp answers.ocsp };
+      answers = record {
+        lists = lists_in answers ++ seen_lists at_points.complete.items;
+        limited = seen_lists at_points.limited.items;
+        ocsp = option_map seen_ocsp answers.ocsp;
+      };
     })
 
 -- what a comparison says of the evidence on a path in two stores

@@ -81,7 +81,8 @@ fn same_evidence(one: &Evidence, other: &Evidence) -> bool
     ensures { IsTrue result ↔ (seen_evidence one.now ≡ seen_evidence other.now) }
 {
     (one.number == other.number && one.may_sign_crls == other.may_sign_crls)
-        && (same_lists(&one.lists, &other.lists) && same_responses(one.ocsp, other.ocsp))
+        && (same_lists(&one.lists, &other.lists)
+            && (same_lists(&one.limited, &other.limited) && same_responses(one.ocsp, other.ocsp)))
 }
 
 /// The first certificate on which something different bears.

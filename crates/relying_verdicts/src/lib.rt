@@ -11,6 +11,6 @@ mod verdicts;
 pub use comparing::compare;
 pub use fault::Fault;
 pub use finding::find;
-pub use path::{Query, QueryFault};
+pub use path::{Options, Query, QueryFault};
 pub use relying_agreement::{Comparison, Verdict};
 pub use verdicts::verdict;

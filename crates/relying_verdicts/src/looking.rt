@@ -11,7 +11,7 @@ ghost use Rattle.store_maps.specs.LooksUp.{LooksUpInside, CausedOverStore};
 ghost use Rattle.relying_agreement.specs.Status.{evidence_of};
 ghost use Rattle.relying_agreement.specs.Verdict.{evidence_on};
 ghost use Rattle.relying_verdicts.specs.Asking.{AsksStore, AsksForCause};
-ghost use Rattle.relying_verdicts.specs.Found.{AreAnswersOn, AreListsAtPoints, IsAssembled, lists_in};
+ghost use Rattle.relying_verdicts.specs.Found.{AreAnswersOn, AreFoundAt, AreListsAtPoints, IsAssembled, lists_in};
 ghost use Rattle.relying_search.specs.View.{seen_evidence, seen_link, seen_lists};
 ghost use Rattle.path.specs.Reading.{seen_query};
 
@@ -79,22 +79,22 @@ fn push_lists(lists: &mut Vec<Option<CrlAnswer>>, answers: &Answers) -> Result<(
     Ok(())
 }
 
-/// What the lists say that the issuer publishes at the points of the certificate: of each point one look-up.
-fn lists_at_points<S: Alter>(
+/// What the lists say that the issuer publishes at these points, as they speak of a certificate: of each point one look-up.
+fn lists_at<S: Alter>(
     alloc: Global,
     tx: &mut Transaction<'_, S>,
     issuer: &Issuer<'_>,
     certificate: &Certificate<'_>,
+    points: &[&[u8]],
 ) -> Result<Vec<Option<CrlAnswer>>, Fault>
     requires inside { IsInTransaction S.Store tx.old }
     ensures same_reference { KeepsReference tx.old tx.new }
-    ensures asks { AsksStore S.Store tx.old tx.new
-        (AreListsAtPoints (seen_issuer issuer.now) (seen_certificate certificate.now)) result }
+    ensures asks { AsksStore S.Store tx.old tx.new (AreFoundAt
+        (seen_issuer issuer.now) (seen_certificate certificate.now) points.now) result }
     ensures caused { AsksForCause S.Store tx.old tx.new result }
     ensures survives { CommitsNothing (inside S.Store tx.old) (inside S.Store tx.new) }
 {
     let mut lists = Vec::new(alloc);
-    let points = certificate.points.as_slice();
     for point in points {
         let answers = look_up_at(alloc, tx, issuer, certificate, point)?;
         push_lists(&mut lists, &answers)?;
@@ -102,22 +102,53 @@ fn lists_at_points<S: Alter>(
     Ok(lists)
 }
 
+/// What the lists say at the points of a certificate.
+#[derive(Drop)]
+struct ListsAtPoints {
+    /// At the complete ones.
+    complete: Vec<Option<CrlAnswer>>,
+    /// At the limited ones.
+    limited: Vec<Option<CrlAnswer>>,
+}
+
+/// What the lists say that the issuer publishes at the points of the certificate.
+fn lists_at_points<S: Alter>(
+    alloc: Global,
+    tx: &mut Transaction<'_, S>,
+    issuer: &Issuer<'_>,
+    certificate: &Certificate<'_>,
+) -> Result<ListsAtPoints, Fault>
+    requires inside { IsInTransaction S.Store tx.old }
+    ensures same_reference { KeepsReference tx.old tx.new }
+    ensures asks { AsksStore S.Store tx.old tx.new
+        (AreListsAtPoints (seen_issuer issuer.now) (seen_certificate certificate.now)) result }
+    ensures caused { AsksForCause S.Store tx.old tx.new result }
+    ensures survives { CommitsNothing (inside S.Store tx.old) (inside S.Store tx.new) }
+{
+    let points = &certificate.points;
+    let complete = lists_at(alloc, tx, issuer, certificate, points.complete.as_slice())?;
+    let limited = lists_at(alloc, tx, issuer, certificate, points.limited.as_slice())?;
+    Ok(ListsAtPoints { complete, limited })
+}
+
 /// What bears on a certificate, by what is held of it under its issuer, and of lists at its points.
 fn assembled(
     alloc: Global,
     link: &Link<'_, '_>,
     answers: &Answers,
-    at_points: &[Option<CrlAnswer>],
+    at_points: ListsAtPoints,
 ) -> Result<Evidence, AllocError>
-    ensures { IfOk result (IsAssembled (seen_link link.now) answers.now at_points.now) }
+    ensures { IfOk result (IsAssembled (seen_link link.now) answers.now at_points) }
 {
+    let ListsAtPoints { complete, limited } = at_points;
     let mut lists = Vec::new(alloc);
     push_lists(&mut lists, answers)?;
-    lists.extend_from_slice(at_points)?;
+    lists.extend_from_slice(complete.as_slice())?;
     Ok(Evidence {
         number: link.number,
         may_sign_crls: may_sign_crls(link),
         lists,
+        limited,
         ocsp: answers.ocsp,
     })
 }
@@ -139,7 +170,7 @@ fn evidence_of<S: Alter>(
     let issuer = issuer_of(alloc, link.issuer)?;
     let answers = look_up(tx, &issuer, link.certificate)?;
     let at_points = lists_at_points(alloc, tx, &issuer, link.certificate)?;
-    Ok(assembled(alloc, link, &answers, &at_points)?)
+    Ok(assembled(alloc, link, &answers, at_points)?)
 }
 
 /// What bears on certificates, one after the other: of each one look-up in a slot, one more at each of its points, and the key of the

@@ -57,10 +57,8 @@ yes ftp://x.K02.EXAMPLE/
 no ftp://x.k14.example/
 yes ftp://x.y.z.k12.example/
 no ftp://xk12.example/
-yes https://localhost/
 no https://localhost.example/
 yes https://any.test/
-no https://test/
 yes https://z.example/
 ";
 

@@ -58,6 +58,14 @@ example.com a1-.://example.com/
 - http:example.com
 - http:/example.com
 - http:
+# no fully qualified DNS name (RFC 5280, 4.2.1.10): a label alone, or a number, as inet_aton takes it
+- http://localhost/
+- http://example/
+- http://0x7f000001/
+- http://0x7F.1/
+- http://2130706433/
+- http://017700000001/
+- http://example.0x7f/
 # no host, or no DNS name
 - http://
 - http:///example.com/
@@ -149,6 +157,8 @@ const WITHOUT_HOST: &[&[u8]] = &[
     b"http://[2001:db8::7]/",
     b"file:///etc/hosts",
     b"http://example.com./",
+    b"http://localhost/",
+    b"http://0x7f000001/",
     b"example.com",
 ];
 

@@ -5,6 +5,7 @@ use relying::DeliverAnswer;
 use relying::Verdict::{Revoked, Unknown, Valid};
 use statements_facts::{Counts, Profile};
 use std::alloc::Global;
+use vectors::{CRL_ISSUER, KEY_COMPROMISE};
 
 const STORED: DeliverAnswer = Ok(Counts {
     stored: 1,
@@ -45,6 +46,11 @@ const FIRST: &[&str] = &["http://a/1"];
 const SECOND: &[&str] = &["http://a/2"];
 
 const BOTH: &[&str] = &["http://a/1", "http://a/2"];
+
+/// The first with reasons, and the second with a cRLIssuer.
+const FOR_A_REASON: &[&str] = &["http://a/1", KEY_COMPROMISE];
+
+const OF_ANOTHER: &[&str] = &["http://a/2", CRL_ISSUER];
 
 const ROWS: &[Row] = &[
     // nothing is known before a list comes
@@ -157,6 +163,35 @@ const ROWS: &[Row] = &[
         ],
         &[STORED, STORED],
         &[(&[FIRST], Valid)],
+    ),
+    // what the list of a point with reasons or a cRLIssuer revokes is revoked, but such a list does not cover, before a restart and behind it
+    (
+        &[
+            Some(("crl(R,5)", 0, FIRST)),
+            None,
+            Some(("crl(R,5,[05 3])", 0, SECOND)),
+        ],
+        &[STORED, STORED],
+        &[
+            (&[FOR_A_REASON], Unknown(1)),
+            (&[OF_ANOTHER], Revoked(1, 3)),
+            (&[FIRST, OF_ANOTHER], Revoked(1, 3)),
+            (&[FOR_A_REASON, FIRST], Valid),
+        ],
+    ),
+    (
+        &[
+            Some(("crl(R,5)", 0, &[])),
+            Some(("crl(R,4,[05 1])", 0, FIRST)),
+            None,
+        ],
+        &[STORED, STORED],
+        &[
+            (&[], Valid),
+            (&[FOR_A_REASON], Revoked(1, 1)),
+            (&[OF_ANOTHER], Valid),
+            (&[OF_ANOTHER, FOR_A_REASON], Revoked(1, 1)),
+        ],
     ),
 ];
 

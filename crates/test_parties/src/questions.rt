@@ -1,8 +1,7 @@
 //! Questions that are read in a profile.
 
 use cert::Certificate;
-use path::{Query, QueryFault};
-use path_profiles::read_query_under;
+use path::{Options, Query, QueryFault};
 use statements_facts::Profile;
 use std::alloc::{AllocError, AllocFailed, Global};
 use std::test::Fail;
@@ -10,13 +9,18 @@ use vectors::certificate_at;
 
 /// Certificates from the anchor down, and the answer. A certificate is written in the notation of `vectors`, or as `x`, which stands for
 /// octets that are not one; its points follow, each with its names. A point without names is malformed. The answer lists the names that each
-/// certificate has, or gives the number of the first certificate that is refused, with the number of its fault.
+/// certificate has, those of points with reasons or a cRLIssuer in parentheses behind the others, or gives the number of the first certificate
+/// that is refused, with the number of its fault.
 const WIDE: &[&str] = &[
     "ca(R,R) | ee(T,R) => [][]",
     "ca(R,R) | ee(T,R) @a => [][ a]",
     "ca(R,R) | ee(T,R) @a+b @c => [][ a b c]",
     "ca(R,R) | ca(A,R) @a | ee(T,A) @b => [][ a][ b]",
     "ca(R,R) | ca(A,R) | ee(T,A) @b @b => [][][ b b]",
+    // points with reasons, and with a cRLIssuer
+    "ca(R,R) | ee(T,R) @a+{keyCompromise} => [][ (a)]",
+    "ca(R,R) | ee(T,R) @a+{keyCompromise} @b @c+d+{cRLIssuer} => [][ b (a) (c) (d)]",
+    "ca(R,R) | ca(A,R) @a+{cRLIssuer}+{keyCompromise} | ee(T,A) @a => [][ (a)][ a]",
     // the points of the anchor are not looked at
     "ca(R,R) @a | ca(A,R) @a | ee(T,A) => [][ a][]",
     "ca(R,R) @ | ee(T,R) @a => [][ a]",
@@ -96,14 +100,25 @@ fn certificates_of(alloc: Global, text: &str) -> Result<Vec<Vec<u8>>, NoAnswer> 
     Ok(all)
 }
 
-/// The names of a certificate's points, without their identifiers and lengths.
+/// A name without its identifier and length.
+fn push_name(text: &mut String, name: &[u8]) -> Result<(), NoAnswer> {
+    for octet in name.iter().skip(2) {
+        text.push(char::from(*octet))?;
+    }
+    Ok(())
+}
+
+/// The names of a certificate's points.
 fn push_names(text: &mut String, certificate: &Certificate<'_>) -> Result<(), NoAnswer> {
     text.push('[')?;
-    for name in certificate.points.iter() {
+    for name in certificate.points.complete.iter() {
         text.push(' ')?;
-        for octet in name.iter().skip(2) {
-            text.push(char::from(*octet))?;
-        }
+        push_name(text, name)?;
+    }
+    for name in certificate.points.limited.iter() {
+        text.push_str(" (")?;
+        push_name(text, name)?;
+        text.push(')')?;
     }
     text.push(']')?;
     Ok(())
@@ -141,7 +156,7 @@ fn read_of(alloc: Global, profile: Profile, text: &str) -> Result<String, NoAnsw
     let (anchor, path) = texts.as_slice().split_first().ok_or(NoAnswer)?;
     told(
         alloc,
-        read_query_under(alloc, profile, anchor, path, 0, None),
+        Query::read_with(alloc, anchor, path, 0, None, Options { profile }),
     )
 }
 
@@ -177,7 +192,10 @@ fn keeps_the_rest(alloc: Global) -> Result<bool, NoAnswer> {
     let anchor = certificate_of(alloc, "ca(R,R)")?;
     let leaf = certificate_of(alloc, "ee(T,R) @a")?;
     let purpose: Option<&[u8]> = Some(b"\x2A");
-    match read_query_under(alloc, Profile::Wide, &anchor, &[&leaf], -7, purpose) {
+    let options = Options {
+        profile: Profile::Wide,
+    };
+    match Query::read_with(alloc, &anchor, &[&leaf], -7, purpose, options) {
         Ok(query) => Ok(query.moment == -7 && query.purpose == purpose),
         Err(_) => Err(NoAnswer),
     }

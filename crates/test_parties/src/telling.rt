@@ -1,6 +1,6 @@
 //! Parties of a profile, and the lists that reach them. `None` is answered if there is no memory.
 
-use path_profiles::read_query_under;
+use path::Query;
 use relying::{DeliverAnswer, Event, Fault, Node, Verdict};
 use sqlite::{Connection, Files, Options};
 use sqlite_disk::{Disk, Memory};
@@ -70,7 +70,8 @@ fn verdict_at<D: Disk + Drop>(
 ) -> Option<Result<Verdict, Fault>> {
     let anchor = certificate(alloc, "ca(R,R)").ok()?;
     let leaf = certificate_at(alloc, "ee(T,R)", points, "R")?;
-    match read_query_under(alloc, profile, &anchor, &[leaf.as_slice()], MIDDLE, None) {
+    let options = path::Options { profile };
+    match Query::read_with(alloc, &anchor, &[leaf.as_slice()], MIDDLE, None, options) {
         Ok(query) => Some(party.verdict(alloc, &query)),
         Err(_) => None,
     }

@@ -3,7 +3,8 @@
 use crate::building::MIDDLE;
 use cert::{CertFault, Certificate};
 use path_search::{
-    Answer, Budget, Issuer, Search, SearchQuestion, Stuck, WhyNot, find, questions, why_not,
+    Answer, Budget, Issuer, Options, Search, SearchQuestion, Stuck, WhyNot, find, questions,
+    why_not,
 };
 use path_verifiers::{ListVerifier, Verifier, fingerprint};
 use std::alloc::{AllocError, AllocFailed, Global};
@@ -133,6 +134,7 @@ fn search_of<'p, 'c>(
         target,
         moment: MIDDLE,
         purpose,
+        options: Options::stated(),
     })
 }
 

@@ -2,7 +2,7 @@
 
 use crate::building::{MIDDLE, PathFault, certificates_of, octets_of};
 use cert::Certificate;
-use path_search::{Authority, Tail, is_right_as_target};
+use path_search::{Authority, Options, Tail, is_right_as_target};
 use std::alloc::Global;
 use std::test::Fail;
 use vectors::ToyVerifier;
@@ -18,9 +18,10 @@ fn is_right_above_two(alloc: Global, certificates: &[Certificate<'_>]) -> Result
         target,
         above: &[1],
     };
+    let options = Options::stated();
     Ok(
-        authority.is_right_above(&ToyVerifier, MIDDLE, &tail)
-            && is_right_as_target(target, MIDDLE, None),
+        authority.is_right_above(&ToyVerifier, MIDDLE, &tail, options)
+            && is_right_as_target(target, MIDDLE, None, options),
     )
 }
 

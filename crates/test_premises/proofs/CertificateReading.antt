@@ -13,6 +13,7 @@ use Rattle.cert.specs.AlgorithmIdentifier.{AlgorithmIdentifier}
 use Rattle.cert.specs.SubjectPublicKeyInfo.{SubjectPublicKeyInfo}
 use Rattle.cert.specs.Extensions.{no_extensions}
 use Rattle.cert.specs.Certificate.{Certificate, certificate}
+use Rattle.cert.specs.CertificatePoints.{no_points}
 use Rattle.cert.specs.CertificateHosts.{no_hosts}
 use Rattle.cert.specs.ExtensionValues.{no_values}
 use Rattle.test_premises.specs.Octets.{anchor_der, anchor_tbs, anchor_signature, target_der, target_tbs, target_signature, name_r, name_t, algorithm, key_r, key_t}
@@ -56,7 +57,7 @@ root = record {
     values = record no_values { basic_constraints = Some constraints };
   };
   signature = record { value = text_at anchor_signature 118; octets = drop 3 anchor_signature };
-  points = [];
+  points = no_points;
   hosts = no_hosts;
 }
 
@@ -73,7 +74,7 @@ leaf = record {
   key_info = key_at key_t 84;
   extensions = no_extensions;
   signature = record { value = text_at target_signature 97; octets = drop 3 target_signature };
-  points = [];
+  points = no_points;
   hosts = no_hosts;
 }
 

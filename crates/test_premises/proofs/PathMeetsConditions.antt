@@ -2,6 +2,7 @@
 use Rattle.std.proofs.Common.{◌≡◌, pos, arith, lit≤, [], ◌∷◌, None, refl, subst}
 use Rattle.path.specs.declared.reason.Outcome.TheVariants.{Good}
 use Rattle.path.specs.declared.reason.Reason.TheVariants.{Repeated, Signature, NotYet, Expired, Issuer, NotPermitted, Excluded, ConstraintForm, NotCa, PathLength, KeyCertSign, Policy, CriticalUnknown, Purpose, Empty, TooLong, NoValidPolicy, AnyPolicyMapped, NoUserPolicy}
+use Rattle.path.specs.Options.{stated_options}
 use Rattle.path.specs.Query.{Query}
 use Rattle.path.specs.Conditions.{MeetsConditions}
 use Rattle.path.specs.Validity.{IsServed, IsOutcome}
@@ -10,7 +11,7 @@ use Rattle.test_premises.proofs.OnLiterals.{on_literals}
 use Rattle.test_premises.proofs.CertificateReading.{root, leaf}
 
 abbrev pub query : Query
-query = record { anchor = root; certificates = leaf ∷ []; moment = pos 1749945600; purpose = None }
+query = record { anchor = root; certificates = leaf ∷ []; moment = pos 1749945600; purpose = None; options = stated_options }
 
 served : IsServed query
 served = record { some = lit≤ tt; few = lit≤ tt }

@@ -4,6 +4,7 @@ use Rattle.std.specs.Str.{bytes_eq}
 use Rattle.cert.specs.Certificate.{Certificate, certificate}
 use Rattle.statements_facts.specs.declared.profile.Profile.TheVariants.{Stated}
 use Rattle.statements_facts.specs.Statement.{empty_holdings}
+use Rattle.path.specs.Options.{stated_options}
 use Rattle.path.specs.Query.{Query, Accepts}
 use Rattle.vectors.specs.ToySignature.{toy_signature_of}
 use Rattle.relying_agreement.specs.declared.verdict.Verdict.TheVariants.{Valid}
@@ -34,15 +35,15 @@ deliveries_to_other =
 abbrev pub answers_to_other : List DeliveryAnswer
 answers_to_other = DeliveryAnswer.Taken ∷ DeliveryAnswer.Taken ∷ DeliveryAnswer.Taken ∷ DeliveryAnswer.Refused ∷ []
 
--- The question: whether T is valid under R on 2025-06-15. The certificates are read from the octets. The parties hold nothing at the
--- start, judge signatures by one relation, and take what statements say that are genuine in the stated profile.
+-- The question: whether T is valid under R on 2025-06-15, in the stated profile. The certificates are read from the octets. The parties hold
+-- nothing at the start, judge signatures by one relation, and take what statements say that are genuine in the stated profile.
 pub record AllPremisesHoldOfOctets : Type 0 where
   pub root : Certificate
   pub leaf : Certificate
   pub root_is_read : certificate anchor_der ≡ Ok root
   pub leaf_is_read : certificate target_der ≡ Ok leaf
   pub query : Query
-  pub query_is : query ≡ record { anchor = root; certificates = leaf ∷ []; moment = pos 1749945600; purpose = None }
+  pub query_is : query ≡ record { anchor = root; certificates = leaf ∷ []; moment = pos 1749945600; purpose = None; options = stated_options }
   pub one : Party
   pub other : Party
   pub one_starts : one.start ≡ empty_holdings

@@ -3,8 +3,7 @@
 use crate::building::certificate;
 use cert::{CertFault, CertRule};
 use der_tree::EncodeFault;
-use path::{Outcome, Query, QueryFault};
-use path_profiles::read_query_under;
+use path::{Options, Outcome, Query, QueryFault};
 use statements_facts::Profile;
 use statements_parts::ReadingFault;
 use std::alloc::{AllocError, AllocFailed, Global};
@@ -81,11 +80,12 @@ pub fn octets_of(alloc: Global, path: &str) -> Result<Vec<Vec<u8>>, RowFault> {
     Ok(all)
 }
 
-/// The question about the octets, of which the first are those of the anchor, in a profile.
-pub fn question_under<'p>(
+/// The question about the octets, of which the first are those of the anchor, in a profile, for a purpose.
+pub fn question_for<'p>(
     alloc: Global,
     profile: Profile,
     octets: &'p [Vec<u8>],
+    purpose: Option<&'p [u8]>,
 ) -> Result<Query<'p>, RowFault> {
     let Some((anchor, path)) = octets.split_first() else {
         return Err(RowFault::Word);
@@ -94,17 +94,23 @@ pub fn question_under<'p>(
     for text in path {
         texts.push(text.as_slice())?;
     }
-    Ok(read_query_under(alloc, profile, anchor, &texts, MIDDLE, None)?)
+    let options = Options { profile };
+    Ok(Query::read_with(alloc, anchor, &texts, MIDDLE, purpose, options)?)
 }
 
-/// The same in the wide profile.
+/// The same in the wide profile, for any purpose.
 pub fn question<'p>(alloc: Global, octets: &'p [Vec<u8>]) -> Result<Query<'p>, RowFault> {
-    question_under(alloc, Profile::Wide, octets)
+    question_for(alloc, Profile::Wide, octets, None)
 }
 
-fn outcome_of(alloc: Global, path: &str) -> Result<Outcome, RowFault> {
+fn outcome_for(
+    alloc: Global,
+    profile: Profile,
+    purpose: Option<&[u8]>,
+    path: &str,
+) -> Result<Outcome, RowFault> {
     let octets = octets_of(alloc, path)?;
-    let query = question(alloc, &octets)?;
+    let query = question_for(alloc, profile, &octets, purpose)?;
     Ok(query.validate(alloc, &ToyVerifier)?)
 }
 
@@ -117,9 +123,14 @@ fn refused(alloc: Global, refused: QueryFault) -> Result<String, RowFault> {
     Ok(format!(in alloc; "refused {number} {fault} {at}")?)
 }
 
-/// What is answered to a row.
-pub fn answer_to(alloc: Global, path: &str) -> Result<String, RowFault> {
-    match outcome_of(alloc, path) {
+/// What is answered about the path in the profile, for the purpose.
+pub fn answer_for(
+    alloc: Global,
+    profile: Profile,
+    purpose: Option<&[u8]>,
+    path: &str,
+) -> Result<String, RowFault> {
+    match outcome_for(alloc, profile, purpose, path) {
         Ok(Outcome::Good) => Ok(format!(in alloc; "good")?),
         Ok(Outcome::Bad(number, reason)) => {
             let rank = reason.rank();
@@ -128,4 +139,9 @@ pub fn answer_to(alloc: Global, path: &str) -> Result<String, RowFault> {
         Err(RowFault::Refused(fault)) => refused(alloc, fault),
         Err(fault) => Err(fault),
     }
+}
+
+/// What is answered in the wide profile, for any purpose.
+pub fn answer_to(alloc: Global, path: &str) -> Result<String, RowFault> {
+    answer_for(alloc, Profile::Wide, None, path)
 }

@@ -1,13 +1,14 @@
 //! Which lists speak of a certificate, by its points and theirs, and the verdicts by them.
 
 use crate::asking::MIDDLE;
-use cert_points::take_points;
-use path::Query;
+use path::{Options, Query};
 use relying_texts::Verdict::{Revoked, Unknown, Valid};
 use relying_texts::{Verdict, read_statements, read_statements_under, verdict};
 use statements_facts::Profile;
 use std::alloc::Global;
-use vectors::{ListText, ToyVerifier, certificate, certificate_at, list_at};
+use vectors::{
+    CRL_ISSUER, KEY_COMPROMISE, ListText, ToyVerifier, certificate, certificate_at, list_at,
+};
 
 /// The points of the certificate with the serial number 05, each with its names; lists; and the verdict.
 type Row = (
@@ -21,6 +22,13 @@ const ONE: &[&str] = &["http://a/1"];
 const TWO: &[&str] = &["http://a/2"];
 
 const BOTH: &[&str] = &["http://a/1", "http://a/2"];
+
+/// The first point with reasons, with a cRLIssuer, and with both.
+const FOR_A_REASON: &[&str] = &["http://a/1", KEY_COMPROMISE];
+
+const OF_ANOTHER: &[&str] = &["http://a/1", CRL_ISSUER];
+
+const FOR_A_REASON_OF_ANOTHER: &[&str] = &["http://a/1", KEY_COMPROMISE, CRL_ISSUER];
 
 const CLEAN: &str = "crl(R,5)";
 
@@ -111,12 +119,76 @@ const ROWS: &[Row] = &[
     ),
 ];
 
+/// The same where a point has reasons, a cRLIssuer or both: what a list there revokes is revoked, whatever else is held, but such a list does
+/// not cover the certificate (RFC 5280, 6.3.3 (d), (e) and (j)).
+const LIMITED: &[Row] = &[
+    (&[FOR_A_REASON], &[(LISTING, 0, ONE)], Revoked(1, 1)),
+    (&[FOR_A_REASON], &[(CLEAN, 0, ONE)], Unknown(1)),
+    (
+        &[FOR_A_REASON],
+        &[(CLEAN, 0, &[]), (LISTING, 0, ONE)],
+        Revoked(1, 1),
+    ),
+    (&[FOR_A_REASON], &[(CLEAN, 0, &[]), (CLEAN, 0, ONE)], Valid),
+    (&[OF_ANOTHER], &[(LISTING, 0, ONE)], Revoked(1, 1)),
+    (&[OF_ANOTHER], &[(CLEAN, 0, ONE)], Unknown(1)),
+    (
+        &[FOR_A_REASON_OF_ANOTHER],
+        &[(CLEAN, 0, &[]), (LISTING, 0, ONE)],
+        Revoked(1, 1),
+    ),
+    (&[FOR_A_REASON_OF_ANOTHER], &[(CLEAN, 0, ONE)], Unknown(1)),
+    // whatever reason it gives, and lists of either scope
+    (
+        &[FOR_A_REASON],
+        &[(CLEAN, 0, &[]), ("crl(R,5,[05 4])", 0x81, ONE)],
+        Revoked(1, 4),
+    ),
+    // a list of another point, of CAs, or one that is no longer current
+    (
+        &[FOR_A_REASON],
+        &[(CLEAN, 0, &[]), (LISTING, 0, TWO)],
+        Valid,
+    ),
+    (
+        &[FOR_A_REASON],
+        &[(CLEAN, 0, &[]), (LISTING, 0x82, ONE)],
+        Valid,
+    ),
+    (
+        &[FOR_A_REASON],
+        &[
+            (CLEAN, 0, &[]),
+            ("crl(R,5,[05 1]){next 250610000000Z}", 0, ONE),
+        ],
+        Valid,
+    ),
+    // beside a point without reasons, whose list covers the certificate, and gives the reason if both give one
+    (&[FOR_A_REASON, TWO], &[(CLEAN, 0, TWO)], Valid),
+    (
+        &[FOR_A_REASON, TWO],
+        &[(CLEAN, 0, TWO), (LISTING, 0, ONE)],
+        Revoked(1, 1),
+    ),
+    (
+        &[FOR_A_REASON, TWO],
+        &[("crl(R,5,[05 4])", 0, TWO), (LISTING, 0, ONE)],
+        Revoked(1, 4),
+    ),
+    // points of one name, of which one has no reasons
+    (&[FOR_A_REASON, ONE], &[(CLEAN, 0, ONE)], Valid),
+    (&[FOR_A_REASON, ONE], &[(LISTING, 0, ONE)], Revoked(1, 1)),
+];
+
 /// The verdict on the certificate below R, by these lists. `None` is answered if there is no memory, or something is refused.
 fn verdict_at(alloc: Global, points: &[&[&str]], lists: &[ListText]) -> Option<Verdict> {
     let anchor = certificate(alloc, "ca(R,R)").ok()?;
     let leaf = certificate_at(alloc, "ee(T,R)", points, "R")?;
-    let mut query = Query::read(alloc, &anchor, &[leaf.as_slice()], MIDDLE, None).ok()?;
-    take_points(alloc, &mut query.path[0]).ok()?;
+    let options = Options {
+        profile: Profile::Wide,
+    };
+    let path = [leaf.as_slice()];
+    let query = Query::read_with(alloc, &anchor, &path, MIDDLE, None, options).ok()?;
     let mut octets = Vec::new(alloc);
     for list in lists {
         octets.push(list_at(alloc, *list)?).ok()?;
@@ -143,6 +215,11 @@ fn first_wrong(alloc: Global, rows: &[Row]) -> Option<usize> {
 #[test]
 fn lists_speak_of_certificates_at_their_points(rt: HostRuntime) {
     assert_eq!(rt; first_wrong(rt.alloc(), ROWS), None);
+}
+
+#[test]
+fn a_point_with_reasons_hides_no_entry(rt: HostRuntime) {
+    assert_eq!(rt; first_wrong(rt.alloc(), LIMITED), None);
 }
 
 /// In the stated profile a list with a point is refused.

@@ -1,4 +1,4 @@
-//! Certificates with malformed mail addresses or bases, of which the first is refused before the path is validated.
+//! Certificates with malformed bases, of which the first is refused before the path is validated.
 
 use crate::asking::{RowFault, answer_to, octets_of, question};
 use cert::{CertFault, CertRule};
@@ -6,22 +6,9 @@ use path::QueryFault;
 use std::alloc::Global;
 use std::test::Fail;
 
-/// The answer is the certificate that is refused, the fault, 18 for mail addresses and their bases and 19 for bases of URIs, and its place
-/// in the certificate. Behind it stand the certificates below the anchor R, between strokes. Comments begin with a number sign.
+/// The answer is the certificate that is refused, the fault, 18 for bases of mail addresses and 19 for those of URIs, and its place in the
+/// certificate. Behind it stand the certificates below the anchor R, between strokes. Comments begin with a number sign.
 const ROWS: &str = "
-# no mail address (RFC 5280, 4.2.1.6), or one with a local part in quotes
-refused 2 18 106 ; ca(A,R) / ee(T,A){mail root@}
-refused 2 18 106 ; ca(A,R) / ee(T,A){mail root}
-refused 2 18 106 ; ca(A,R) / ee(T,A){mail @example.com}
-refused 2 18 106 ; ca(A,R) / ee(T,A){mail .example.com}
-refused 2 18 106 ; ca(A,R) / ee(T,A){mail \"root\"@example.com}
-refused 2 18 106 ; ca(A,R) / ee(T,A){mail a b@example.com}
-refused 2 18 106 ; ca(A,R) / ee(T,A){mail root@192.0.2.1}
-refused 2 18 121 ; ca(A,R) / ee(T,A){mail a@example.com}{mail root}
-refused 2 18 82 ; ca(A,R) / ee(T,A){email root}
-# an emailAddress of the subject stands before the names of subjectAltName, and these before the constraints
-refused 2 18 83 ; ca(A,R) / ca(T,A){email root}{mail a}{permit mail b@}
-refused 2 18 107 ; ca(A,R) / ca(T,A){mail a}{permit mail b@}
 # no bases (4.2.1.10)
 refused 1 18 131 ; ca(A,R){permit mail @example.com} / ee(T,A)
 refused 1 18 131 ; ca(A,R){exclude mail root@.example.com} / ee(T,A)
@@ -31,12 +18,14 @@ refused 1 19 131 ; ca(A,R){permit uri *.example.com} / ee(T,A)
 refused 1 19 131 ; ca(A,R){exclude uri 192.0.2.1} / ee(T,A)
 refused 1 19 131 ; ca(A,R){exclude uri root@example.com} / ee(T,A)
 refused 1 19 131 ; ca(A,R){permit uri .} / ee(T,A)
-# the first certificate that has one, whatever else the path is refused for
-refused 1 18 106 ; ca(A,R){mail a} / ee(T,A){mail b}
-refused 2 18 106 ; ca(A,R){until 250201000000Z} / ee(T,A){signed X}{mail b}
+# the first certificate that has one, whatever else the path is refused for, and the first base of it
+refused 1 18 131 ; ca(A,R){permit mail @} / ca(T,A){permit mail @}
+refused 2 18 131 ; ca(A,R){until 250201000000Z} / ca(T,A){signed X}{exclude mail a}{permit mail @}
 refused 3 19 131 ; ca(A,R) / ca(A,A){key B} / ca(T,A){signed B}{permit uri a..b}
-refused 2 18 106 ; ca(A,R){permit dns example.com} / ee(T,A){mail root}
-# a URI may be any text where URIs are not constrained
+refused 1 19 131 ; ca(A,R){permit uri a..b}{exclude mail @} / ee(T,A)
+# mail addresses and URIs may be any text where they are not constrained
+refused 1 18 145 ; ca(A,R){mail a}{permit mail @} / ee(T,A){mail b}
+good ; ca(A,R){mail a} / ee(T,A){mail b}
 good ; ca(A,R) / ee(T,A){uri :}
 good ; ca(A,R) / ee(T,A){uri http://root@/}
 ";
@@ -57,7 +46,7 @@ fn each_row_has_its_fault(rt: HostRuntime) -> Result<(), Fail> {
 
 #[test]
 fn no_row_is_lost(rt: HostRuntime) {
-    assert_eq!(rt; ROWS.lines().filter(|row| row.contains(';')).count(), 25);
+    assert_eq!(rt; ROWS.lines().filter(|row| row.contains(';')).count(), 16);
 }
 
 /// What a text is refused for that is no certificate, in place of a path's first.

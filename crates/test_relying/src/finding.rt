@@ -4,7 +4,7 @@ use crate::answering::{FIFTH, STORED};
 use crate::asking::{MIDDLE, octets_of};
 use crate::telling::{Question, Told, asked};
 use cert::Certificate;
-use path_search::{Budget, Search};
+use path_search::{Budget, Options, Search};
 use relying::Verdict::{Revoked, Unknown, Valid};
 use relying::{DeliverAnswer, Finding, FindingBudget, Node, Verdict};
 use sqlite_disk::Disk;
@@ -35,6 +35,7 @@ fn found_over<D: Disk + Drop>(
         target,
         moment: MIDDLE,
         purpose: None,
+        options: Options::stated(),
     };
     let budget = FindingBudget {
         search: Budget {

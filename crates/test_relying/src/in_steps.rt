@@ -5,7 +5,7 @@ use crate::asking::{MIDDLE, octets_of};
 use crate::telling::{Question, asked, pair_of};
 use cert::Certificate;
 use relying::Verdict::Revoked;
-use relying::{DeliverAnswer, DeliverFault, Node, Query, Verdict, read_statement};
+use relying::{DeliverAnswer, DeliverFault, Node, Options, Query, Verdict, read_statement};
 use sqlite_disk::Disk;
 use std::alloc::Global;
 use vectors::ToyVerifier;
@@ -25,6 +25,7 @@ fn verdict_of_read<D: Disk + Drop>(
         path,
         moment: MIDDLE,
         purpose: None,
+        options: Options::stated(),
     };
     party.verdict(alloc, &query).ok()
 }

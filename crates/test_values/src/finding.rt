@@ -3,7 +3,7 @@
 
 use crate::notation::{MIDDLE, read_all};
 use cert::Certificate;
-use path_search::{Budget, Search};
+use path_search::{Budget, Options, Search};
 use relying_search::{Finding, FindingBudget};
 use relying_texts::{Verdict, find};
 use statements::Statement;
@@ -139,6 +139,7 @@ fn found_over(
         target,
         moment: MIDDLE,
         purpose: None,
+        options: Options::stated(),
     };
     let budget = FindingBudget {
         search: Budget {

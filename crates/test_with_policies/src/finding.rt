@@ -4,7 +4,7 @@ use crate::asking::{MIDDLE, RowFault, inputs_of, octets_of, policies_of, row_of}
 use crate::verdicts::{lists_of, text_of};
 use asn::Oid;
 use cert::{CertFault, Certificate};
-use path_search::{Budget, Candidate, Search};
+use path_search::{Budget, Candidate, Options, Search};
 use relying_policies::{
     FindingWithPolicies, PoliciesApart, SearchPolicies, find_with_policies, search_policies_apart,
 };
@@ -56,6 +56,7 @@ impl<'c> Asked<'c> {
             target: &self.target,
             moment: MIDDLE,
             purpose: None,
+            options: Options::stated(),
         }
     }
 

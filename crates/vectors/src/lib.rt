@@ -77,5 +77,5 @@ pub use fault::NotationFault;
 pub use list_building::{revocation_list, revocation_list_tree};
 pub use part::NotationPart;
 pub use parts::{algorithm_tree, bit_string, key_info, name, name_tree, primitive};
-pub use published::{ListText, certificate_at, list_at};
+pub use published::{CRL_ISSUER, KEY_COMPROMISE, ListText, certificate_at, list_at};
 pub use toy_verifier::{ToyVerifier, toy_signature};

@@ -2,12 +2,18 @@
 
 use crate::building::{sign, tree_of};
 use crate::list_building::{ISSUING_DISTRIBUTION_POINT, revocation_list_tree};
-use crate::parts::primitive;
+use crate::parts::{name_tree, primitive};
 use der_tree::{Tree, encode};
 use std::alloc::Global;
 
 /// A list in the notation of `vectors`, the identifier of a flag of its scope or 0, and the names under which it is published.
 pub type ListText = (&'static str, u8, &'static [&'static str]);
+
+/// Among the names of a certificate's point: it has reasons, keyCompromise alone.
+pub const KEY_COMPROMISE: &str = "{keyCompromise}";
+
+/// Among the names of a certificate's point: it has a cRLIssuer, CN=I.
+pub const CRL_ISSUER: &str = "{cRLIssuer}";
 
 /// 2.5.29.31
 const POINTS: &[u8] = b"\x55\x1D\x1F";
@@ -16,10 +22,10 @@ fn constructed(alloc: Global, identifier: u8, member: Tree) -> Option<Tree> {
     Some(Tree::Constructed(identifier, vec![in alloc; member].ok()?))
 }
 
-/// distributionPoint [0] fullName [0]: uniformResourceIdentifiers
+/// distributionPoint [0] fullName [0]: uniformResourceIdentifiers, but for words in braces
 fn full_name(alloc: Global, names: &[&str]) -> Option<Tree> {
     let mut all = Vec::new(alloc);
-    for name in names {
+    for name in names.iter().filter(|name| !name.starts_with('{')) {
         all.push(primitive(alloc, 0x86, name.as_bytes()).ok()?)
             .ok()?;
     }
@@ -38,12 +44,37 @@ fn extension(alloc: Global, oid: &[u8], critical: bool, value: Tree) -> Option<T
     Some(Tree::Constructed(0x30, members))
 }
 
-/// cRLDistributionPoints: SEQUENCE OF SEQUENCE { distributionPoint }
+/// cRLIssuer [2]: the directoryName CN=I
+fn crl_issuer(alloc: Global) -> Option<Tree> {
+    let name = constructed(alloc, 0xA4, name_tree(alloc, "I").ok()?)?;
+    constructed(alloc, 0xA2, name)
+}
+
+/// Whether the word stands among the names.
+fn has(names: &[&str], word: &str) -> bool {
+    names.iter().any(|name| *name == word)
+}
+
+/// DistributionPoint ::= SEQUENCE { distributionPoint, reasons, cRLIssuer }
+fn distribution_point(alloc: Global, names: &[&str]) -> Option<Tree> {
+    let mut members = Vec::new(alloc);
+    members.push(full_name(alloc, names)?).ok()?;
+    if has(names, KEY_COMPROMISE) {
+        members
+            .push(primitive(alloc, 0x81, b"\x06\x40").ok()?)
+            .ok()?;
+    }
+    if has(names, CRL_ISSUER) {
+        members.push(crl_issuer(alloc)?).ok()?;
+    }
+    Some(Tree::Constructed(0x30, members))
+}
+
+/// cRLDistributionPoints: SEQUENCE OF DistributionPoint
 fn points_extension(alloc: Global, points: &[&[&str]]) -> Option<Tree> {
     let mut all = Vec::new(alloc);
     for names in points {
-        all.push(constructed(alloc, 0x30, full_name(alloc, names)?)?)
-            .ok()?;
+        all.push(distribution_point(alloc, names)?).ok()?;
     }
     extension(alloc, POINTS, false, Tree::Constructed(0x30, all))
 }
@@ -102,8 +133,8 @@ fn with_points(alloc: Global, members: Vec<Tree>, one: Tree) -> Option<Vec<Tree>
     Some(members)
 }
 
-/// The octets of the certificate in the notation of `vectors`, with these points, each of which has a full name with these URIs, signed
-/// under the key. A point without names is malformed.
+/// The octets of the certificate in the notation of `vectors`, with these points, each of which has a full name with these URIs, and, where
+/// `KEY_COMPROMISE` or `CRL_ISSUER` stands among them, reasons or a cRLIssuer, signed under the key. A point without names is malformed.
 pub fn certificate_at(
     alloc: Global,
     text: &str,

@@ -122,8 +122,8 @@ pub mod search {
 
 /// Constraints on mail addresses and on the hosts of URIs (RFC 5280, 4.2.1.10), for who asks for them.
 ///
-/// In `Profile::Stated` a path is refused where such a constraint meets a name of its form. What `points::read_query_under` and
-/// `points::read_certificate_under` read in `Profile::Wide` carries its mail addresses, hosts and constraints on them as `hosts`, and every
+/// In `Profile::Stated` a path is refused where such a constraint meets a name of its form. What `Query::read_with` and
+/// `profiles::read_certificate` read in `Profile::Wide` carries its mail addresses, hosts and constraints on them as `hosts`, and every
 /// call that validates or searches then processes them. `take_hosts` gives them to a certificate that was read.
 pub mod hosts {
     pub use cert::CertificateHosts;
@@ -200,37 +200,46 @@ pub mod at_hand {
     };
 }
 
-/// Lists that are published by distribution point (RFC 5280, 4.2.1.13, 5.2.5 and 6.3.3), for who asks for them.
+/// The wide profile, for who asks for it: lists that are published by distribution point (RFC 5280, 4.2.1.13, 5.2.5 and 6.3.3), constraints on
+/// mail addresses and hosts (4.2.1.10), critical certificatePolicies and cRLDistributionPoints (4.2.1.4, 4.2.1.13), and a keyUsage that goes
+/// with the purpose (4.2.1.12).
 ///
-/// All other calls read in `Profile::Stated`: a list with a point is refused, and the points of certificates are not read. A caller that wants
-/// such lists asks for `Profile::Wide`, in three steps.
+/// All calls without options read and ask in `Profile::Stated`: a list with a point is refused, and the points of certificates are not read. A
+/// caller that wants the wide profile asks for it in three steps.
 ///
-/// 1. Read the path by `read_query_under`: each of its certificates then has the names of its points (and its `hosts`). For a search, read
-///    each certificate of the bag, and the target, by `read_certificate_under`.
+/// 1. Read the question by `Query::read_with`, with `Options { profile: Profile::Wide }`: each certificate of the path then has the names of its
+///    points (and its `hosts`). For a search, read each certificate of the bag, and the target, by `read_certificate`, and give the same
+///    options to the [`Search`](crate::search::Search).
 /// 2. Read the statements by `read_statements_under`. A party that keeps a store makes it by `Store::make_under` or `Store::create_under`
 ///    instead: then [`Node::deliver`](crate::Node::deliver) reads in the profile of the store.
 /// 3. Ask for the verdict as ever. It looks for the lists at the points of each certificate, beside those of all certificates of its issuer.
 ///
 /// For example, by statements at hand:
 ///
-///     let query = read_query_under(alloc, Profile::Wide, anchor_octets, &path_octets, moment, purpose)?;
+///     let options = Options { profile: Profile::Wide };
+///     let query = Query::read_with(alloc, anchor_octets, &path_octets, moment, purpose, options)?;
 ///     let statements = read_statements_under(alloc, Profile::Wide, &list_octets)?;
 ///     let verdict = at_hand::verdict(alloc, &verifier, &query, &statements)?;
 ///
-/// `take_points` gives a certificate that was read its points, and `genuine_under` answers the facts of one statement.
-pub mod points {
-    pub use cert_points::{
-        DistributionPoint, DistributionPoints, GeneralNames, PointName, point_layout_laws,
-        point_reading_laws, take_points,
-    };
-    pub use path_profiles::{
-        certificate_profile_laws, query_profile_laws, read_certificate_under, read_query_under,
+/// `validate_with` is `validate` with options, and `genuine_under` answers the facts of one statement.
+pub mod profiles {
+    pub use path::{
+        Options, certificate_profile_laws, query_profile_laws, read_certificate, validate_with,
     };
     pub use relying::read_statement_under;
     pub use relying_texts::read_statements_under;
     pub use statements::{genuine_under, statement_profile_laws};
     pub use statements_crl::profile_laws;
     pub use statements_facts::Profile;
+}
+
+/// The points at which lists about a certificate are published (RFC 5280, 4.2.1.13). `take_points` gives them to a certificate that was read.
+pub mod points {
+    pub use cert::CertificatePoints;
+    pub use cert_points::{
+        DistributionPoint, DistributionPoints, GeneralNames, PointName, point_layout_laws,
+        point_reading_laws, take_points,
+    };
 }
 
 /// What a store holds, and how a connection is taken for a store and looked up.

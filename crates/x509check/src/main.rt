@@ -9,7 +9,7 @@ use std::io::Write;
 use std::process::ExitCode;
 use std::{env, io};
 
-const VERSION: &str = "1.1.0";
+const VERSION: &str = "1.2.0";
 
 // The kit that proved and built it.
 const KIT: &str = "rattle-kit-13f logic dac8208d650f15bf";

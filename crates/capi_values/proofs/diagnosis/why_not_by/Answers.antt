@@ -23,7 +23,7 @@ returns-clause-finds c =
         read = read;
         is_read = search_is c.args.search.now read (map seen_certificate c.in_ok-certificates.certificates.items)
             c.in_ok-certificates.ensures.reads (c.among-among.ensures.certificates ∙ ap (map seen_certificate) c.as_slice.ensures.value) c.among-among.ensures.anchors c.among-among.ensures.moment
-            c.among-among.ensures.purpose;
+            c.among-among.ensures.purpose c.among-among.ensures.options;
         is_why_not = subst (λ budget. IsWhyNot accepts read budget.search found) c.budget-budget.ensures c.in_ok-why_not.ensures;
       };
     }

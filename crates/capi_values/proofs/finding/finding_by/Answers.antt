@@ -27,7 +27,7 @@ returns-clause-finds c =
         these = map seen_statement case.statements.items;
         is_read = search_read c.args.search.now c.args.statements.now read (map seen_certificate case.certificates.items) (map seen_statement case.statements.items)
             c.in_ok-case.ensures.certificates (c.among-among.ensures.certificates ∙ ap (map seen_certificate) c.as_slice.ensures.value) c.among-among.ensures.anchors c.among-among.ensures.moment
-            c.among-among.ensures.purpose c.in_ok-case.ensures.statements;
+            c.among-among.ensures.purpose c.among-among.ensures.options c.in_ok-case.ensures.statements;
         is_finding =
             subst (λ these. IsFinding accepts (held_for accepts (map seen_statement these)) read (budget_of c.args.search.now.limits) found) c.as_slice-2.ensures.value
             (subst (λ budget. IsFinding accepts (held_for accepts (map seen_statement c.as_slice-2.result.now)) read budget found) c.budget-budget.ensures c.in_ok-find.ensures);

@@ -18,7 +18,7 @@ returns c =
     let old = c.args.written.now in
     let is = search_read c.args.search.now c.args.statements.now search (map seen_certificate case.certificates.items) (map seen_statement read)
     c.in_ok-case.ensures.certificates (c.among-among.ensures.certificates ∙ ap (map seen_certificate) c.as_slice.ensures.value) c.among-among.ensures.anchors c.among-among.ensures.moment
-    c.among-among.ensures.purpose c.in_ok-case.ensures.statements in
+    c.among-among.ensures.purpose c.among-among.ensures.options c.in_ok-case.ensures.statements in
     are_written_among c.args.search.now c.args.statements.now search (map seen_statement read) c.in_ok-asked.asked.items old c.write.new.questions _
     c.in_ok-case.ensures.fit is
     (subst (λ these. AreFindingQuestions search (map seen_statement these) (seen_all c.in_ok-asked.asked.items)) c.as_slice-2.ensures.value c.in_ok-asked.ensures.asked)

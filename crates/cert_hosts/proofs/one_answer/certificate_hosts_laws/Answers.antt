@@ -1,7 +1,6 @@
-use Rattle.cert_hosts.proofs.OneAnswer.{one_answer, either, one_refusal}
-use Rattle.cert_hosts.proofs.WalkedHosts.{hosts_are_exact, refusals_are_exact}
+use Rattle.cert_hosts.proofs.WalkedHosts.{hosts_are_exact, refusals_are_exact, one_answer, either, one_refusal}
 use Rattle.cert_hosts.proofs.FaultPlaces.{fault_is_within}
-use Rattle.cert_hosts.proofs.OwnHosts.{hosts_are_its_own}
+use Rattle.cert_hosts.proofs.OwnBases.{bases_are_its_own}
 use Rattle.cert_hosts.proofs.one_answer.certificate_hosts_laws.Goals as goal
 
 pub returns : goal.returns
@@ -12,5 +11,5 @@ returns c = record {
   exact = hosts_are_exact;
   exact_refusal = refusals_are_exact;
   fault = fault_is_within;
-  own = hosts_are_its_own c.certificate_laws.ensures.by_field;
+  own = bases_are_its_own c.certificate_laws.ensures.by_field;
 }

@@ -5,6 +5,7 @@ use Rattle.cert_points.proofs.ChosenNames.{is_point_name, point_name_is}
 use Rattle.cert_points.proofs.OnePoint.{is_point, point_is}
 use Rattle.cert_points.proofs.ManyPoints.{are_points, points_are}
 use Rattle.cert_points.proofs.CompletePoints.{complete_names_are_exact}
+use Rattle.cert_points.proofs.LimitedPoints.{limited_names_are_exact}
 use Rattle.cert_points.proofs.PointsOfCertificate.{points_are_of_extension}
 use Rattle.cert_points.proofs.PointFaults.{point_fault_is_of_value, name_fault_is_within}
 use Rattle.cert_points.proofs.layout.point_layout_laws.Goals as goal
@@ -32,6 +33,9 @@ returns-clause-certificate c = points_are_of_extension
 
 pub returns-clause-complete_names : goal.returns-clause-complete_names
 returns-clause-complete_names c = complete_names_are_exact
+
+pub returns-clause-limited_names : goal.returns-clause-limited_names
+returns-clause-limited_names c = limited_names_are_exact
 
 pub returns-clause-fault : goal.returns-clause-fault
 returns-clause-fault c = point_fault_is_of_value c.offset_laws.ensures.general

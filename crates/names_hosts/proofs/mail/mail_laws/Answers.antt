@@ -1,5 +1,6 @@
-use Rattle.names_hosts.proofs.MailLaws.{mail_name_is_one, mail_base_is_one, mail_inside_is_exact, shared_mail_is_nested}
-use Rattle.names_hosts.proofs.MailTests.{mail_name_is_exact, mail_base_is_exact}
+use Rattle.names_hosts.proofs.MailLaws.{mail_inside_is_exact, shared_mail_is_nested}
+use Rattle.names_hosts.proofs.MailTests.{mail_name_is_exact, mail_base_is_exact, mail_name_is_one, mail_base_is_one}
+use Rattle.names_hosts.proofs.Literals.{literals_are_at_no_hosts}
 use Rattle.names_hosts.proofs.mail.mail_laws.Goals as goal
 
 pub returns : goal.returns
@@ -10,4 +11,5 @@ returns c = record {
   nested = shared_mail_is_nested;
   exact_name = mail_name_is_exact;
   exact_base = mail_base_is_exact;
+  literals = literals_are_at_no_hosts;
 }

@@ -1,7 +1,6 @@
 use Rattle.std.proofs.Common.{sym, subst}
 use Rattle.std.proofs.lemmas.Bool.{both_ways}
-use Rattle.names_identity.specs.Host.{IsHost}
-use Rattle.names_hosts.specs.Uri.{IsPortPart}
+use Rattle.names_hosts.specs.Uri.{IsFullyQualified, IsPortPart}
 use Rattle.names_hosts.proofs.UriTexts.{port_cut, some_if}
 use Rattle.names_hosts.proofs.uris.before_port.Goals as goal
 
@@ -13,5 +12,5 @@ returns-then-not-is_port-clause-accepts c = λ host h.
 pub returns-clause-accepts : goal.returns-clause-accepts
 returns-clause-accepts c = λ host h.
     let same = port_cut c.args.rest.now host c.cut.result.0.now c.cut.result.1.now h c.cut.ensures in
-    rw (c.then_some.ensures) (some_if c.is_host.result c.cut.result.0 host
-    (c.is_host.ensures.1 (subst IsHost (sym same.0) h.is_host)) same.0)
+    rw (c.then_some.ensures) (some_if c.is_fully_qualified.result c.cut.result.0 host
+    (c.is_fully_qualified.ensures.1 (subst IsFullyQualified (sym same.0) h.is_host)) same.0)

@@ -1,8 +1,5 @@
-use Rattle.std.proofs.Common.{◌≡◌, map, take}
-use Rattle.cert.specs.Certificate.{certificate}
-use Rattle.path.specs.Reading.{texts_of}
-use Rattle.path.proofs.Readings.{read_as}
+use Rattle.path.proofs.Readings.{ReadSoFar}
 use Rattle.path.proofs.query.read_path.Given as goal
 
 abbrev pub invariant-loop-index : goal.invariant-loop-index
-invariant-loop-index l = map certificate (take l.index (texts_of l.path)) ≡ map read_as l.certificates.items
+invariant-loop-index l = ReadSoFar l.profile l.path l.index l.certificates.items

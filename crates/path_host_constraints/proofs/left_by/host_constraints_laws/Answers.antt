@@ -1,4 +1,4 @@
-use Rattle.path_host_constraints.proofs.Laws.{none_is_left, narrowed_is_left, permit_exactly, exclude_exactly, find_hosts_exactly, permit_alone, exclude_alone, find_hosts_alone, hold_at_most}
+use Rattle.path_host_constraints.proofs.Laws.{none_is_left, narrowed_is_left, permit_exactly, exclude_exactly, find_hosts_exactly, permit_alone, exclude_alone, find_hosts_alone}
 use Rattle.path_host_constraints.proofs.left_by.host_constraints_laws.Goals as goal
 
 pub returns : goal.returns
@@ -9,5 +9,5 @@ returns c = record {
   exclude = exclude_exactly;
   find = find_hosts_exactly;
   alone = λ above c held made. (permit_alone above c held made, exclude_alone above c held made, find_hosts_alone above c held made);
-  few = hold_at_most;
+  few = λ says j held left. left.few;
 }

@@ -1,7 +1,8 @@
 use Rattle.std.proofs.Common.{map, take}
+use Rattle.std.specs.Prelude.{option_map}
 use Rattle.names_hosts.specs.Mail.{mail_text}
 use Rattle.path_host_constraints.specs.MailLists.{PermitsAllMail}
 use Rattle.path_host_constraints.proofs.mail_lists.permits_all_mail.Given as goal
 
-abbrev pub invariant-loop-name : goal.invariant-loop-name
-invariant-loop-name l = PermitsAllMail l.list (map mail_text (take l.name-index l.names))
+abbrev pub invariant-loop-found : goal.invariant-loop-found
+invariant-loop-found l = PermitsAllMail l.list (map (option_map mail_text) (take l.found-index l.names))

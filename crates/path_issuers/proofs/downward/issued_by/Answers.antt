@@ -19,7 +19,7 @@ returns-then-not-is_authority-clause-issued g c =
     none_issued (g.V.Verifier.accepts c.args.verifier.now) (seen_search search) c.args.naming.now c.requires place _ c.new-then-not-is_authority.ensures.items
     (λ below issuer.
     false≢true (sym c.if-not-is_authority.true
-    ∙ c.is_authority.ensures.1 (subst (λ (certificate : Certificate). IsRightAsAuthority search.moment certificate) (sym at) issuer.authority)))
+    ∙ c.is_authority.ensures.1 (subst (λ (certificate : Certificate). IsRightAsAuthority search.options search.moment certificate) (sym at) issuer.authority)))
 
 pub returns-clause-issued : goal.returns-clause-issued
 returns-clause-issued g c =
@@ -32,7 +32,7 @@ returns-clause-issued g c =
     let lookup = c.in-Some.ensures.lookup in
     let at = ap seen_certificate (lookup.3.1 search.target.now) ∙ sym (get_or-map seen_certificate search.bag.now place search.target.now) in
     let there = lookup.3.0 in
-    let right = subst (λ (certificate : Certificate). IsRightAsAuthority search.moment certificate) at (c.is_authority.ensures.0 c.if-not-is_authority.false) in
+    let right = subst (λ (certificate : Certificate). IsRightAsAuthority search.options search.moment certificate) at (c.is_authority.ensures.0 c.if-not-is_authority.false) in
     let P = IsSought accepts s (IssuedBy place) in
     if_found (λ (issued : Vec ℕ). ArePicked P places issued.items)
     (λ (issued : Vec ℕ). AreIssuedBy accepts s naming place issued.items)

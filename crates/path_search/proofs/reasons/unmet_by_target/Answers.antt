@@ -8,12 +8,12 @@ use Rattle.path_search.proofs.reasons.unmet_by_target.Goals as goal
 pub loop-reason-init : goal.loop-reason-init
 loop-reason-init c =
     let s = seen_search c.args.search.now in
-    meets_none (MeetsAsTarget s.moment s.purpose s.target)
+    meets_none (MeetsAsTarget s.options s.moment s.purpose s.target)
 
 pub loop-reason-preserved : goal.loop-reason-preserved
 loop-reason-preserved c =
     let s = seen_search c.args.search.now in
-    meets_more (MeetsAsTarget s.moment s.purpose s.target) (c.loop-reason.reason-index + 1) _
+    meets_more (MeetsAsTarget s.options s.moment s.purpose s.target) (c.loop-reason.reason-index + 1) _
     (rank_by_rank c.loop-reason.reason-index c.loop-reason-test.true) c.loop-reason.invariant (c.target_meets.ensures.0 c.if-not-target_meets.false)
 
 pub returns-then-not-target_meets : goal.returns-then-not-target_meets
@@ -25,4 +25,4 @@ returns-then-not-target_meets c = record {
 pub returns : goal.returns
 returns c =
     let s = seen_search c.args.search.now in
-    meets_all (MeetsAsTarget s.moment s.purpose s.target) (λ r h. c.loop-reason.invariant r (omega (arith, h, c.loop-reason-test.false)))
+    meets_all (MeetsAsTarget s.options s.moment s.purpose s.target) (λ r h. c.loop-reason.invariant r (omega (arith, h, c.loop-reason-test.false)))

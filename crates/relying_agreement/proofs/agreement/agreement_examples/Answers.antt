@@ -1,4 +1,4 @@
-use Rattle.relying_agreement.proofs.KnownVerdictLaws.{known_verdicts, names_first_difference}
+use Rattle.relying_agreement.proofs.KnownVerdictLaws.{known_verdicts, names_difference_at_limited_point, names_first_difference}
 use Rattle.relying_agreement.proofs.ExampleLaws.{all_premises_hold, needs_consistency, needs_same_newest, needs_holds_newest, needs_one_verifier, strangers_do_not_matter}
 use Rattle.relying_agreement.proofs.agreement.agreement_examples.Goals as goal
 
@@ -22,6 +22,9 @@ returns-clause-known c = known_verdicts
 
 pub returns-clause-first_difference : goal.returns-clause-first_difference
 returns-clause-first_difference c = names_first_difference
+
+pub returns-clause-limited_difference : goal.returns-clause-limited_difference
+returns-clause-limited_difference c = names_difference_at_limited_point
 
 pub returns-clause-strangers : goal.returns-clause-strangers
 returns-clause-strangers c = strangers_do_not_matter

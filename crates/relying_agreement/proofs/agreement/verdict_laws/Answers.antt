@@ -1,3 +1,4 @@
+use Rattle.relying_agreement.proofs.HiddenLaws.{held_revocation_counts}
 use Rattle.relying_agreement.proofs.ValidLaws.{invalid_exactly_where, valid_exactly_where}
 use Rattle.relying_agreement.proofs.VerdictLaws.{verdict_is_one}
 use Rattle.relying_agreement.proofs.WordLaws.{revoked_exactly_where, unknown_exactly_where}
@@ -17,3 +18,6 @@ returns-clause-revoked c = revoked_exactly_where
 
 pub returns-clause-unknown : goal.returns-clause-unknown
 returns-clause-unknown c = unknown_exactly_where
+
+pub returns-clause-not_hidden : goal.returns-clause-not_hidden
+returns-clause-not_hidden c = held_revocation_counts

@@ -7,5 +7,6 @@ use Rattle.relying_texts.proofs.verdicts.evidence_of.Goals as goal
 
 pub returns : goal.returns
 returns c =
-    bears (facts_in_all c.args.genuine.now) (seen_link c.args.link.now) c.may_sign_crls.result (seen_lists c.in_ok-lists_on.field-0.items) (option_map seen_ocsp c.response_on.result)
-    c.may_sign_crls.ensures c.in_ok-lists_on.ensures c.response_on.ensures
+    bears (facts_in_all c.args.genuine.now) (seen_link c.args.link.now) c.may_sign_crls.result
+    (seen_lists c.in_ok-complete_lists_on.field-0.items) (seen_lists c.in_ok-limited_lists_on.field-0.items) (option_map seen_ocsp c.response_on.result)
+    c.may_sign_crls.ensures c.in_ok-complete_lists_on.ensures c.in_ok-limited_lists_on.ensures c.response_on.ensures

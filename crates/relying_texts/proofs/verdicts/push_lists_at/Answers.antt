@@ -1,4 +1,4 @@
-use Rattle.std.proofs.Common.{◌≡◌, None, filter_map, option_map, ap, ◌∙◌}
+use Rattle.std.proofs.Common.{None, filter_map, option_map, ap, ◌∙◌}
 use Rattle.asn.specs.Place.{body, seen_tlv}
 use Rattle.statements_facts.specs.declared.scope.Scope.TheVariants.{All}
 use Rattle.statements_facts.specs.Coming.{crl_for}

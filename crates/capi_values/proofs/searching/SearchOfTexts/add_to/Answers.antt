@@ -1,6 +1,6 @@
 use Rattle.std.proofs.Common.{◌++◌, [], ◌∷◌, List, ap, ◌∙◌, append_assoc}
 use Rattle.std.proofs.lemmas.Result.{err_from_is_err_and}
-use Rattle.path_profiles.specs.InProfile.{certificate_under}
+use Rattle.path.specs.InProfile.{certificate_in}
 use Rattle.statements_facts.specs.declared.profile.Profile.{Profile}
 use Rattle.statements_facts.specs.declared.profile.Profile.TheVariants.{Stated}
 use Rattle.capi_values.specs.Searching.{search_certificates}
@@ -30,7 +30,7 @@ returns-in_err-add_certificates-2-clause-refuses c =
     let order =
     ap (λ (front : List Reading). front ++ readings_under asked target ++ bag) c.in_ok-add_certificates.ensures.reads
     ∙ ap (λ (it : Profile). old ++ anchors ++ readings_under it target ++ bag) c.profile_of-profile.ensures
-    ∙ in_order old anchors (certificate_under (profile_of search.wide) search.target.octets.now) bag in
+    ∙ in_order old anchors (certificate_in (profile_of search.wide) search.target.octets.now) bag in
     let p = err_from_is_err_and c.from_residual-in_err-add_certificates-2.result c.from_residual-in_err-add_certificates-2.ensures.1 in
     rw (p.1, p.2) (with_more (now ++ readings_under asked target) bag (old ++ readings (search_certificates search)) _ order
     c.in_err-add_certificates-2.ensures.refuses)

@@ -1,6 +1,6 @@
 use Rattle.std.proofs.Common.{Some, ap}
 use Rattle.names_hosts.specs.Mail.{mail_text, one_mailbox}
-use Rattle.names_hosts.proofs.MailLaws.{mail_base_is_one}
+use Rattle.names_hosts.proofs.MailTests.{mail_base_is_one}
 use Rattle.names_hosts.proofs.mail.MailBase.read.Goals as goal
 
 pub returns-in-Some-clause-accepts : goal.returns-in-Some-clause-accepts

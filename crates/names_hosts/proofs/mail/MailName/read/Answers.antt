@@ -1,9 +1,9 @@
-use Rattle.std.proofs.Common.{Some, ap}
-use Rattle.names_hosts.specs.Mail.{MailText}
-use Rattle.names_hosts.proofs.MailLaws.{mail_name_is_one}
+use Rattle.std.proofs.Common.{◌∙◌, false}
+use Rattle.names_hosts.proofs.MailTests.{name_reads, mail_name_is_exact}
 use Rattle.names_hosts.proofs.mail.MailName.read.Goals as goal
 
-pub returns-in-Ok-Mailbox-clause-accepts : goal.returns-in-Ok-Mailbox-clause-accepts
-returns-in-Ok-Mailbox-clause-accepts c = λ name h.
-    let found : MailText = record { local = c.in-Ok-Mailbox.local.now; host = c.in-Ok-Mailbox.host.now } in
-    ap Some (mail_name_is_one c.args.text.now found name (rw c.in-Ok-Mailbox.field-0-is at c.in-Ok-Mailbox.ensures.reads) h)
+pub returns-clause-reads : goal.returns-clause-reads
+returns-clause-reads c = name_reads false c.args.text.now c.read_mailbox.result c.read_mailbox.ensures
+
+pub returns-clause-accepts : goal.returns-clause-accepts
+returns-clause-accepts c = λ name m. c.read_mailbox.ensures ∙ (mail_name_is_exact false c.args.text.now name).1 m

@@ -1,13 +1,18 @@
-use Rattle.std.proofs.Common.{◌↔◌, map, sym, ap, subst}
+use Rattle.std.proofs.Common.{◌↔◌, sym, subst, refl, ◌∙◌}
 use Rattle.std.specs.Prelude.{IsTrue}
-use Rattle.std.specs.Option.{option_copied}
+use Rattle.std.proofs.lemmas.Bool.{false≢true}
 use Rattle.cert.specs.CertificateHosts.{seen_hosts}
-use Rattle.path_host_constraints.specs.HostLists.{HasEachHost}
 use Rattle.path_host_constraints.specs.HostConstraints.{HostConstraints, FindHosts}
 use Rattle.path_host_constraints.proofs.constraints.HostConstraints.finds_hosts.Goals as goal
 
-pub returns-else-not-self : goal.returns-else-not-self
-returns-else-not-self c = subst (λ (held : HostConstraints). IsTrue c.lacks_no_host.result ↔ FindHosts held (seen_hosts c.args.hosts.now)) c.self.view_is (
-  λ t uris. subst (λ hosts. HasEachHost hosts) (ap (map option_copied) c.deref.ensures.value) (c.lacks_no_host.ensures.0 t),
-  λ found. c.lacks_no_host.ensures.1 (subst (λ hosts. HasEachHost hosts) (sym (ap (map option_copied) c.deref.ensures.value)) (found c.if-not-self.false)),
+pub returns-then-has_each_mailbox : goal.returns-then-has_each_mailbox
+returns-then-has_each_mailbox c = subst (λ (held : HostConstraints). IsTrue c.has_each_host.result ↔ FindHosts held (seen_hosts c.args.hosts.now)) c.self.view_is (
+  λ t. record { mail = c.if-has_each_mailbox.ensures.0 refl; uris = c.has_each_host.ensures.0 t },
+  λ found. c.has_each_host.ensures.1 found.uris,
+)
+
+pub returns-else-has_each_mailbox : goal.returns-else-has_each_mailbox
+returns-else-has_each_mailbox c = subst (λ (held : HostConstraints). IsTrue c.has_each_mailbox.result ↔ FindHosts held (seen_hosts c.args.hosts.now)) c.self.view_is (
+  λ t. absurd (false≢true (sym c.if-has_each_mailbox.false ∙ t)),
+  λ found. c.has_each_mailbox.ensures.1 found.mail,
 )

@@ -7,11 +7,11 @@ use Rattle.path_search.proofs.Ranking.{meets_none, meets_more, meets_all, rank_b
 use Rattle.path_search.proofs.authority.Authority.unmet_above.Goals as goal
 
 pub loop-reason-init : goal.loop-reason-init
-loop-reason-init c = meets_none (MeetsAbove (IsTrue c.args.signed) (seen_search c.args.search.now).moment c.args.self.now (seen_tail c.args.tail.now))
+loop-reason-init c = meets_none (MeetsAbove (seen_search c.args.search.now).options (IsTrue c.args.signed) (seen_search c.args.search.now).moment c.args.self.now (seen_tail c.args.tail.now))
 
 pub loop-reason-preserved : goal.loop-reason-preserved
 loop-reason-preserved c =
-    meets_more (MeetsAbove (IsTrue c.args.signed) (seen_search c.args.search.now).moment c.args.self.now (seen_tail c.args.tail.now)) (c.loop-reason.reason-index + 1) _
+    meets_more (MeetsAbove (seen_search c.args.search.now).options (IsTrue c.args.signed) (seen_search c.args.search.now).moment c.args.self.now (seen_tail c.args.tail.now)) (c.loop-reason.reason-index + 1) _
     (rank_by_rank c.loop-reason.reason-index c.loop-reason-test.true) c.loop-reason.invariant (c.meets_above.ensures.0 c.if-not-meets_above.false)
 
 pub returns-then-not-meets_above : goal.returns-then-not-meets_above
@@ -22,5 +22,5 @@ returns-then-not-meets_above c = record {
 
 pub returns : goal.returns
 returns c =
-    meets_all (MeetsAbove (IsTrue c.args.signed) (seen_search c.args.search.now).moment c.args.self.now (seen_tail c.args.tail.now))
+    meets_all (MeetsAbove (seen_search c.args.search.now).options (IsTrue c.args.signed) (seen_search c.args.search.now).moment c.args.self.now (seen_tail c.args.tail.now))
     (λ r h. c.loop-reason.invariant r (omega (arith, h, c.loop-reason-test.false)))

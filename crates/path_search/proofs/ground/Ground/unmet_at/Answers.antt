@@ -25,6 +25,6 @@ returns c =
     let there : place < length s.bag = omega (arith, c.requires, length-map search.bag.now seen_certificate) in
     let at : here ≡ certificate_at s place =
     c.index.ensures ∙ (ap (λ l. get_or l place here) c.args.self.now.agree ∙ get_or_default s.bag place here s.target there) in
-    unmet_by (IsTrue signed) (Contains c.args.signers.now place) c.is_among-signed.ensures s.moment (certificate_at s place) path c.unmet_above.result
-    (subst (λ (x : Certificate). MatchOption c.unmet_above.result (MeetsEach (MeetsAbove (IsTrue signed) s.moment x path))
-    (IsFirstUnmet (MeetsAbove (IsTrue signed) s.moment x path))) at c.unmet_above.ensures)
+    unmet_by s.options (IsTrue signed) (Contains c.args.signers.now place) c.is_among-signed.ensures s.moment (certificate_at s place) path c.unmet_above.result
+    (subst (λ (x : Certificate). MatchOption c.unmet_above.result (MeetsEach (MeetsAbove s.options (IsTrue signed) s.moment x path))
+    (IsFirstUnmet (MeetsAbove s.options (IsTrue signed) s.moment x path))) at c.unmet_above.ensures)

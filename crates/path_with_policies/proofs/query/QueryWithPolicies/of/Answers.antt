@@ -12,6 +12,7 @@ returns-in-Ok-clause-query c =
       anchor = refl;
       moment = refl;
       purpose = refl;
+      options = refl;
       certificates = record {
         path = ap (map seen_certificate) (elements_are c.args.query.path c.as_mut_slice.result.now c.policies_apart.new.certificates was c.in-Ok.ensures.apart) ∙ subst (λ old. map seen_certificate c.policies_apart.new.certificates ≡ map seen_apart old) was c.in-Ok.ensures.apart ∙ all_apart c.args.query.path.items;
         policies = all_taken c.args.query.path.items c.in-Ok.policies.items (subst (λ old. AreAllTaken old c.in-Ok.policies.items) was c.in-Ok.ensures.read);

@@ -1,0 +1,13 @@
+use Rattle.std.proofs.Common.{sym, subst}
+use Rattle.asn.specs.Place.{seen_tlv}
+use Rattle.names_hosts.specs.Mail.{mail_names}
+use Rattle.cert_hosts.specs.BaseLists.{seen_lists}
+use Rattle.cert_hosts.specs.Bases.{mail_base}
+use Rattle.cert_hosts.specs.Reading.{TellsWith}
+use Rattle.cert_hosts.proofs.Told.{mail_base_told}
+use Rattle.cert_hosts.proofs.base_lists.BaseLists.take_mail.Goals as goal
+
+pub returns : goal.returns
+returns c =
+    subst (TellsWith (mail_base c.args.permitted (seen_tlv c.args.value)) (seen_lists c.args.self.now)) (sym c.in_ok-push_mail.ensures)
+    (mail_base_told c.args.permitted (seen_tlv c.args.value) (mail_names c.in_ok-base.base) (seen_lists c.args.self.now) c.in_ok-base.ensures.reads)

@@ -1,0 +1,9 @@
+use Rattle.std.proofs.Common.{◌∙◌, true}
+use Rattle.names_hosts.proofs.MailTests.{name_reads, mail_name_is_exact}
+use Rattle.names_hosts.proofs.mail.MailName.read_utf8.Goals as goal
+
+pub returns-clause-reads : goal.returns-clause-reads
+returns-clause-reads c = name_reads true c.args.text.now c.read_mailbox.result c.read_mailbox.ensures
+
+pub returns-clause-accepts : goal.returns-clause-accepts
+returns-clause-accepts c = λ name m. c.read_mailbox.ensures ∙ (mail_name_is_exact true c.args.text.now name).1 m

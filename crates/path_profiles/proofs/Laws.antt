@@ -1,2 +1,0 @@
--- The laws that other crates may cite.
-pub use Rattle.path_profiles.proofs.WideCertificates.{stated_too}

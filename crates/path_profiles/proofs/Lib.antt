@@ -1,4 +1,0 @@
-mod WideCertificates
-mod Readings
-mod Profiles
-pub mod Laws
